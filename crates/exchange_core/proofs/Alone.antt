@@ -5,9 +5,9 @@ use Rattle.exchange_core.specs.Flow.{Flow, last_place}
 use Rattle.exchange_core.specs.Moves.{is_free, is_held_at, is_target_above, last_free, last_free_to, later_above, lets_go}
 use Rattle.filter_chain.specs.Chain.{EndsInSend, kinds}
 use Rattle.flow_gate.specs.Board.{Board, count, is_marked}
-use Rattle.flow_gate.specs.declared.ids.BufferId.TheVariants as buffer
-use Rattle.flow_gate.specs.declared.ids.BufferId.{BufferId}
-use Rattle.flow_gate.specs.declared.ids.FlowId.{FlowId}
+use Rattle.flow_rules.specs.declared.ids.BufferId.TheVariants as buffer
+use Rattle.flow_rules.specs.declared.ids.BufferId.{BufferId}
+use Rattle.flow_rules.specs.declared.ids.FlowId.{FlowId}
 use Rattle.std.proofs.Common.{Bool, ap, arith, false, nat_lt, refl, sym, true, ℕ, ◌&&◌, ◌-◌, ◌<◌, ◌||◌, ◌≡◌, ◌∙◌}
 use Rattle.std.proofs.lemmas.Bool.Decides.{nat_tests}
 use Rattle.std.specs.Prelude.{None, Option, Some, if◌then◌else◌, not, ◌==◌}

@@ -13,7 +13,7 @@ use Rattle.exchange_core.specs.View.{IsKept, exchanges_of}
 use Rattle.exchange_core.specs.declared.exchange.Exchange.{Exchange}
 use Rattle.exchange_core.specs.declared.exchanges.Exchanges.TheInside.{Inside}
 use Rattle.filter_chain.specs.Chain.{EndsInSend, kinds}
-use Rattle.flow_gate.specs.declared.ids.FlowId.{FlowId}
+use Rattle.flow_rules.specs.declared.ids.FlowId.{FlowId}
 use Rattle.std.proofs.Common.{refl, subst, sym, ◌∙◌}
 use Rattle.paged_map.specs.PagedMap.{PagedMap, WritesThrough}
 use Rattle.std.specs.BTreeMap.{is_at}

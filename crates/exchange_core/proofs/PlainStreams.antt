@@ -6,7 +6,7 @@ use Rattle.exchange_core.specs.Moves.{is_free, left_from, may_release, next_step
 use Rattle.exchange_core.specs.Plain.{Plain, plain_crossed, plain_flow, plain_moved}
 use Rattle.exchange_core.specs.declared.step.Step.TheVariants.{Moved, Still}
 use Rattle.flow_gate.specs.Board.{Board, count, is_marked}
-use Rattle.flow_gate.specs.declared.ids.BufferId.TheVariants as buffer
+use Rattle.flow_rules.specs.declared.ids.BufferId.TheVariants as buffer
 use Rattle.std.specs.Option.{option_map_or}
 use Rattle.std.specs.Prelude.{None, Some, if◌then◌else◌, not, ◌==◌, ◌||◌}
 

@@ -14,7 +14,7 @@ use Rattle.exchange_core.specs.declared.exchange.Exchange.{Exchange}
 use Rattle.exchange_core.specs.declared.exchanges.Exchanges.TheInside.{Inside}
 use Rattle.filter_chain.specs.Chain.{above_at}
 use Rattle.flow_gate.specs.Board.{Board, is_open}
-use Rattle.flow_gate.specs.declared.ids.FlowId.{FlowId}
+use Rattle.flow_rules.specs.declared.ids.FlowId.{FlowId}
 use Rattle.wm_buffer.specs.Watermark.{crossing}
 use Rattle.flow_gate.proofs.Places.{weaken}
 use Rattle.std.proofs.Common.{ap, arith, inl, inr, refl, subst, sym, ◌∙◌}

@@ -6,7 +6,7 @@ use Rattle.exchange_core.specs.declared.exchange.Exchange.{Exchange}
 use Rattle.exchange_core.specs.declared.start.StartSpec.{StartSpec}
 use Rattle.filter_chain.specs.Chain.{empty_chain}
 use Rattle.filter_chain.specs.Effects.{ticked}
-use Rattle.flow_gate.specs.declared.ids.FlowId.{FlowId}
+use Rattle.flow_rules.specs.declared.ids.FlowId.{FlowId}
 use Rattle.proxy_config.specs.declared.config.Config.{Config}
 use Rattle.proxy_config.specs.declared.routes.Filter.{Filter}
 use Rattle.proxy_config.specs.declared.routes.Route.{Route}

@@ -3,7 +3,7 @@ use Rattle.exchange_core.specs.Exchange.{IsSoundExchange, flow_in, goes_to, is_m
 use Rattle.exchange_core.specs.Flow.{Flow, last_place}
 use Rattle.exchange_core.specs.declared.exchange.Exchange.{Exchange}
 use Rattle.filter_chain.specs.Chain.{above_at}
-use Rattle.flow_gate.specs.declared.ids.FlowId.{FlowId}
+use Rattle.flow_rules.specs.declared.ids.FlowId.{FlowId}
 use Rattle.std.specs.List.{AllByRecursion}
 use Rattle.std.specs.List.Sorted.{IsStrictlySortedBy}
 use Rattle.std.specs.Map.{keys_of, lookup}

@@ -15,7 +15,7 @@ use Rattle.std.specs.Option.{option_map_or}
 use Rattle.std.specs.Prelude.{Bool, None, Option, false, if◌then◌else◌, length, min, nat_lt, suc, true, zero, ℕ, ◌&&◌, ◌*◌, ◌+◌}
 use Rattle.wm_buffer.specs.Watermark.{crossing}
 use Rattle.wm_buffer.specs.declared.buffer.Shifted.{Shifted}
-use Rattle.flow_gate.specs.declared.ids.BufferId.TheVariants as buffer
+use Rattle.flow_rules.specs.declared.ids.BufferId.TheVariants as buffer
 
 -- ---- what the gates say
 -- some source behind the place is above

@@ -4,7 +4,7 @@ use Rattle.exchange_core.specs.Message.{head_waits, trailers_wait}
 use Rattle.filter_chain.specs.Chain.{limit_at, place_at}
 use Rattle.filter_chain.specs.Place.{Place, kind_of}
 use Rattle.flow_gate.specs.Board.{Board, count, is_marked}
-use Rattle.flow_gate.specs.declared.ids.FlowId.{FlowId}
+use Rattle.flow_rules.specs.declared.ids.FlowId.{FlowId}
 use Rattle.flow_rules.specs.Narrowed.{octets_of}
 use Rattle.flow_rules.specs.Sources.{SourceAt, sources_from as in_order, write_source}
 use Rattle.flow_rules.specs.State.{FlowState}

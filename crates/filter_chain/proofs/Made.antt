@@ -10,7 +10,7 @@ use Rattle.filter_chain.specs.Chain.{EndsInSend, IsSound, empty_chain, kinds, st
 use Rattle.filter_chain.specs.Place.{IsPlace, Place, empty_place}
 use Rattle.filter_chain.specs.declared.stage.StageKind.{StageKind}
 use Rattle.filter_chain.specs.declared.stage.StageKind.TheVariants.{Hold, Meter, Send}
-use Rattle.flow_gate.specs.declared.ids.FlowId.{FlowId}
+use Rattle.flow_rules.specs.declared.ids.FlowId.{FlowId}
 use Rattle.proxy_config.specs.Ranges.{AreFilters, IsBetween, IsFilter}
 use Rattle.proxy_config.specs.declared.routes.Filter.{Filter}
 use Rattle.proxy_config.specs.declared.routes.Filter.TheVariants as filter

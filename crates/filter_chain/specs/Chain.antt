@@ -4,7 +4,7 @@ use Rattle.std.specs.Option.{option_map_or}
 use Rattle.filter_chain.specs.Place.{IsPlace, Place, empty_place}
 use Rattle.filter_chain.specs.declared.stage.StageKind.{StageKind}
 use Rattle.filter_chain.specs.declared.stage.StageKind.TheVariants.{Hold, Meter, Send}
-use Rattle.flow_gate.specs.declared.ids.FlowId.{FlowId}
+use Rattle.flow_rules.specs.declared.ids.FlowId.{FlowId}
 use Rattle.proxy_config.specs.Ranges.{IsBetween}
 use Rattle.proxy_config.specs.declared.routes.Filter.{Filter}
 use Rattle.proxy_config.specs.declared.routes.Filter.TheVariants as filter

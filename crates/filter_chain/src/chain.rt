@@ -11,7 +11,7 @@ use crate::fault::OfferFault;
 use crate::meter::Clock;
 use crate::places::{all_empty, empty_alone, feed, frame_last, pass_on, refill_all, stages_of};
 use crate::stage::{Stage, StageKind};
-use flow_gate::FlowId;
+use flow_rules::FlowId;
 use io_ports::NoMemory;
 use proxy_config::FilterList;
 use std::alloc::Global;

@@ -5,10 +5,10 @@ use Rattle.flow_gate.proofs.Places.{eq_by_place}
 use Rattle.flow_gate.proofs.SameIds.{same_buffer-comm, same_buffer-refl, same_buffer_exact}
 use Rattle.flow_gate.specs.Ids.{same_buffer, same_flow}
 use Rattle.flow_gate.specs.Named.{ByFlow, Updates, WritesThrough, all_of, as_buffer, named}
-use Rattle.flow_gate.specs.declared.ids.BufferId.{BufferId}
-use Rattle.flow_gate.specs.declared.ids.BufferId.TheVariants as buffer
-use Rattle.flow_gate.specs.declared.ids.FlowId.{FlowId}
-use Rattle.flow_gate.specs.declared.ids.StageId.{StageId}
+use Rattle.flow_rules.specs.declared.ids.BufferId.{BufferId}
+use Rattle.flow_rules.specs.declared.ids.BufferId.TheVariants as buffer
+use Rattle.flow_rules.specs.declared.ids.FlowId.{FlowId}
+use Rattle.flow_gate.specs.declared.buffers.StageId.{StageId}
 use Rattle.std.proofs.Common.{ap, refl, sym, ◌∙◌}
 use Rattle.std.proofs.lemmas.Map.{NonePasses}
 use Rattle.std.specs.BTreeMap.{is_at}

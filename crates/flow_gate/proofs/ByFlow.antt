@@ -5,7 +5,7 @@ use Rattle.flow_gate.proofs.SameIds.{same_flow-comm, same_flow-refl, same_flow_e
 use Rattle.flow_gate.specs.Ids.{same_flow}
 use Rattle.flow_gate.specs.Named.{Updates, WritesThrough, both, named, request_of, response_of}
 use Rattle.flow_gate.specs.Parts.{flow_at}
-use Rattle.flow_gate.specs.declared.ids.FlowId.{FlowId}
+use Rattle.flow_rules.specs.declared.ids.FlowId.{FlowId}
 use Rattle.std.proofs.Common.{ap, refl, subst, sym, ◌∙◌}
 use Rattle.std.specs.BTreeMap.{is_at}
 use Rattle.std.specs.Cmp.{IsEquivalence}

@@ -12,8 +12,8 @@ use Rattle.flow_gate.specs.Changes.{Begins, Closes, Drains, Knows, Rises, Tells}
 use Rattle.flow_gate.specs.Ids.{same_buffer, same_flow}
 use Rattle.flow_gate.specs.Line.{Line, Places, told}
 use Rattle.flow_gate.specs.Parts.{AreGates, Buffers, Flows, board_of, buffer_at, flow_at}
-use Rattle.flow_gate.specs.declared.ids.BufferId.{BufferId}
-use Rattle.flow_gate.specs.declared.ids.FlowId.{FlowId}
+use Rattle.flow_rules.specs.declared.ids.BufferId.{BufferId}
+use Rattle.flow_rules.specs.declared.ids.FlowId.{FlowId}
 use Rattle.std.proofs.Common.{ap, arith, inl, inr, refl, subst, sym, ◌∙◌}
 use Rattle.std.proofs.lemmas.Bool.{cases_Bool, false≢true}
 use Rattle.std.proofs.lemmas.List.{drop-map, take-append-drop, take_all}

@@ -10,9 +10,9 @@ use Rattle.flow_gate.specs.Books.{Books}
 use Rattle.flow_gate.specs.Changes.{Forgets, Watches}
 use Rattle.flow_gate.specs.Line.{Line, at_place, left}
 use Rattle.flow_gate.specs.Parts.{AreGates, AreWatches, Buffers, Flows, board_of, buffer_at, buffer_state, flow_state, held, is_stage, kept, watched_in}
-use Rattle.flow_gate.specs.declared.ids.BufferId.{BufferId}
-use Rattle.flow_gate.specs.declared.ids.BufferId.TheVariants as buffer
-use Rattle.flow_gate.specs.declared.ids.FlowId.{FlowId}
+use Rattle.flow_rules.specs.declared.ids.BufferId.{BufferId}
+use Rattle.flow_rules.specs.declared.ids.BufferId.TheVariants as buffer
+use Rattle.flow_rules.specs.declared.ids.FlowId.{FlowId}
 use Rattle.std.proofs.Common.{ap, arith, inl, inr, refl, subst, sym, ◌∙◌}
 use Rattle.std.proofs.lemmas.Bool.{cases_Bool}
 use Rattle.std.proofs.lemmas.Map.Steps.{set_value_same}

@@ -4,8 +4,8 @@ use Rattle.flow_gate.proofs.Reading.{FlowFound, count_found, is_marked-board}
 use Rattle.flow_gate.specs.Board.{count, is_marked}
 use Rattle.flow_gate.specs.Books.{Books}
 use Rattle.flow_gate.specs.Parts.{AreGates, AreWatches, Buffers, Flows, above_at, board_of, held, watched_in}
-use Rattle.flow_gate.specs.declared.ids.BufferId.{BufferId}
-use Rattle.flow_gate.specs.declared.ids.FlowId.{FlowId}
+use Rattle.flow_rules.specs.declared.ids.BufferId.{BufferId}
+use Rattle.flow_rules.specs.declared.ids.FlowId.{FlowId}
 use Rattle.flow_gate.specs.declared.watcher.Watch.{Watch}
 use Rattle.std.proofs.Common.{ap, arith, subst, sym, ◌∙◌}
 use Rattle.std.proofs.lemmas.Bool.{eq-eqb, eqb-true, false_from_ne_true}

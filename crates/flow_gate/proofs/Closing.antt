@@ -5,9 +5,9 @@ use Rattle.flow_gate.proofs.SameIds.{same_buffer_exact}
 use Rattle.flow_gate.specs.Ids.{same_buffer, same_flow}
 use Rattle.flow_gate.specs.Line.{Line, Places}
 use Rattle.flow_gate.specs.Parts.{Buffers, buffer_at, is_after, kept}
-use Rattle.flow_gate.specs.declared.ids.BufferId.{BufferId}
-use Rattle.flow_gate.specs.declared.ids.BufferId.TheVariants as buffer
-use Rattle.flow_gate.specs.declared.ids.FlowId.{FlowId}
+use Rattle.flow_rules.specs.declared.ids.BufferId.{BufferId}
+use Rattle.flow_rules.specs.declared.ids.BufferId.TheVariants as buffer
+use Rattle.flow_rules.specs.declared.ids.FlowId.{FlowId}
 use Rattle.std.proofs.Common.{ap, arith, inl, inr, refl, sym, ◌∙◌}
 use Rattle.std.proofs.lemmas.Bool.{cases_Bool, eqb-true}
 use Rattle.std.specs.Prelude.{Bool, None, Option, Some, [], cond, false, if◌then◌else◌, length, not, ℕ, ◌&&◌, ◌==◌, ◌∷◌, ◌≡◌}

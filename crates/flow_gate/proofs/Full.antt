@@ -1,6 +1,6 @@
 -- A line in which a flow stands on each stand.
 use Rattle.flow_gate.specs.Line.{is_taken, live}
-use Rattle.flow_gate.specs.declared.ids.FlowId.{FlowId}
+use Rattle.flow_rules.specs.declared.ids.FlowId.{FlowId}
 use Rattle.flow_gate.specs.declared.stands.Stand.{Stand}
 use Rattle.std.proofs.Common.{arith, inl, inr, refl, subst, sym}
 use Rattle.std.proofs.lemmas.Bool.{cases_Bool, false≢true}

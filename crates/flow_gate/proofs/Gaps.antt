@@ -2,7 +2,7 @@
 use Rattle.flow_gate.proofs.Places.{eq_by_place, weaken}
 use Rattle.flow_gate.proofs.Rising.{Rises, Rises-tail, later}
 use Rattle.flow_gate.specs.Line.{IsBefore, Places, live, places_of}
-use Rattle.flow_gate.specs.declared.ids.FlowId.{FlowId}
+use Rattle.flow_rules.specs.declared.ids.FlowId.{FlowId}
 use Rattle.flow_gate.specs.declared.stands.Stand.{Stand}
 use Rattle.std.proofs.Common.{ap, arith, inl, inr, refl, sym, ◌∙◌}
 use Rattle.std.proofs.lemmas.Bool.{cases_Bool, eqb-true, false≢true}

@@ -5,8 +5,8 @@ use Rattle.flow_gate.proofs.Placed.{line_in}
 use Rattle.flow_gate.specs.Board.{times}
 use Rattle.flow_gate.specs.Line.{Line, at_place, held_in}
 use Rattle.flow_gate.specs.Parts.{AreWatches, Buffers, StandsIn, above_at, buffer_at, held, pending_at, watched_in}
-use Rattle.flow_gate.specs.declared.ids.BufferId.{BufferId}
-use Rattle.flow_gate.specs.declared.ids.FlowId.{FlowId}
+use Rattle.flow_rules.specs.declared.ids.BufferId.{BufferId}
+use Rattle.flow_rules.specs.declared.ids.FlowId.{FlowId}
 use Rattle.flow_gate.specs.declared.watcher.Watch.{Watch}
 use Rattle.std.proofs.Common.{ap, arith, get_or, subst, sym, ◌∙◌}
 use Rattle.std.proofs.lemmas.List.Sums.{sum_by-append}

@@ -9,8 +9,8 @@ use Rattle.flow_gate.specs.Board.{times, times_of_buffer}
 use Rattle.flow_gate.specs.Ids.{same_buffer}
 use Rattle.flow_gate.specs.Line.{Line, at_place, left}
 use Rattle.flow_gate.specs.Parts.{AreWatches, Buffers, StandsIn, buffer_at, line_at, watched_in}
-use Rattle.flow_gate.specs.declared.ids.BufferId.{BufferId}
-use Rattle.flow_gate.specs.declared.ids.FlowId.{FlowId}
+use Rattle.flow_rules.specs.declared.ids.BufferId.{BufferId}
+use Rattle.flow_rules.specs.declared.ids.FlowId.{FlowId}
 use Rattle.flow_gate.specs.declared.watcher.Watch.{Watch}
 use Rattle.std.proofs.Common.{ap, arith, get_or, inl, inr, refl, subst, sym, ◌∙◌}
 use Rattle.std.proofs.lemmas.Bool.{cases_Bool, le-ltb, lt-ltb, ltb-false}

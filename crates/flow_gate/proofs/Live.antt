@@ -1,7 +1,7 @@
 -- The flows that stand in a line.
 use Rattle.flow_gate.proofs.Rising.{Rises, Rises-tail}
 use Rattle.flow_gate.specs.Line.{Places, is_taken, live, places_of}
-use Rattle.flow_gate.specs.declared.ids.FlowId.{FlowId}
+use Rattle.flow_rules.specs.declared.ids.FlowId.{FlowId}
 use Rattle.flow_gate.specs.declared.stands.Stand.{Stand}
 use Rattle.std.proofs.Common.{ap, arith, inl, inr, refl, subst, sym, ◌∙◌}
 use Rattle.std.proofs.lemmas.Bool.{cases_Bool}

@@ -2,13 +2,13 @@
 use Rattle.flow_gate.proofs.Places.{eq_by_place}
 use Rattle.flow_gate.specs.Ids.{same_buffer, same_flow}
 use Rattle.flow_gate.specs.Named.{as_buffer}
-use Rattle.flow_gate.specs.contracts.ids.BufferIdOrd.TheImpl as buffer_ord
-use Rattle.flow_gate.specs.contracts.ids.FlowIdOrd.TheImpl as flow_ord
-use Rattle.flow_gate.specs.contracts.ids.StageIdOrd.TheImpl as stage_ord
-use Rattle.flow_gate.specs.declared.ids.BufferId.{BufferId}
-use Rattle.flow_gate.specs.declared.ids.BufferId.TheVariants as buffer
-use Rattle.flow_gate.specs.declared.ids.FlowId.{FlowId}
-use Rattle.flow_gate.specs.declared.ids.StageId.{StageId}
+use Rattle.flow_rules.specs.contracts.ids.BufferIdOrd.TheImpl as buffer_ord
+use Rattle.flow_rules.specs.contracts.ids.FlowIdOrd.TheImpl as flow_ord
+use Rattle.flow_gate.specs.contracts.buffers.StageIdOrd.TheImpl as stage_ord
+use Rattle.flow_rules.specs.declared.ids.BufferId.{BufferId}
+use Rattle.flow_rules.specs.declared.ids.BufferId.TheVariants as buffer
+use Rattle.flow_rules.specs.declared.ids.FlowId.{FlowId}
+use Rattle.flow_gate.specs.declared.buffers.StageId.{StageId}
 use Rattle.std.proofs.Common.{refl, ◌∙◌}
 use Rattle.std.specs.BTreeMap.{is_at}
 use Rattle.std.specs.Ordering.{bool_cmp, is_eq, nat_cmp, ordering_then}

@@ -3,7 +3,7 @@ use Rattle.flow_gate.proofs.Live.{entry, live-filter, live-more, live-parts}
 use Rattle.flow_gate.proofs.Places.{between_below, between_from, between_high, between_low, between_yes, filter_none, filter_same, first_of, no_first, weaken}
 use Rattle.flow_gate.proofs.Rising.{Rises, Rises-tail, later}
 use Rattle.flow_gate.specs.Line.{Places, between, is_between, live}
-use Rattle.flow_gate.specs.declared.ids.FlowId.{FlowId}
+use Rattle.flow_rules.specs.declared.ids.FlowId.{FlowId}
 use Rattle.flow_gate.specs.declared.stands.Stand.{Stand}
 use Rattle.std.proofs.Common.{ap, arith, inl, inr, refl, subst, sym, ◌∙◌}
 use Rattle.std.proofs.lemmas.Bool.{cases_Bool, false_from_ne_true, false≢true}

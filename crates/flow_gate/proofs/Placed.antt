@@ -8,8 +8,8 @@ use Rattle.flow_gate.specs.Books.{Books}
 use Rattle.flow_gate.specs.Ids.{is_own, same_buffer, same_flow}
 use Rattle.flow_gate.specs.Line.{Line, Places, at_place, left}
 use Rattle.flow_gate.specs.Parts.{AreGates, Buffers, Flows, Stands, board_of, buffer_at, flow_at, kept, line_at, watches_at}
-use Rattle.flow_gate.specs.declared.ids.BufferId.{BufferId}
-use Rattle.flow_gate.specs.declared.ids.FlowId.{FlowId}
+use Rattle.flow_rules.specs.declared.ids.BufferId.{BufferId}
+use Rattle.flow_rules.specs.declared.ids.FlowId.{FlowId}
 use Rattle.flow_gate.specs.declared.watcher.Watch.{Watch}
 use Rattle.std.proofs.Common.{ap, arith, inl, inr, refl, sym, ◌∙◌}
 use Rattle.std.proofs.lemmas.Bool.{cases_Bool, eq-eqb, eqb-true}

@@ -4,7 +4,7 @@ use Rattle.flow_gate.proofs.SameIds.{same_flow-refl}
 use Rattle.flow_gate.specs.Board.{times}
 use Rattle.flow_gate.specs.Ids.{same_flow}
 use Rattle.flow_gate.specs.Line.{Line, Places, at_place, between, is_between, left}
-use Rattle.flow_gate.specs.declared.ids.FlowId.{FlowId}
+use Rattle.flow_rules.specs.declared.ids.FlowId.{FlowId}
 use Rattle.std.proofs.Common.{ap, arith, inl, inr, refl, subst, sym, ◌∙◌}
 use Rattle.std.proofs.lemmas.Bool.{cases_Bool, cond_both, eqb-true, false_from_ne_true, false≢true, ne_eqb}
 use Rattle.std.proofs.lemmas.Bool.Decides.{nat_tests}

@@ -4,7 +4,7 @@ use Rattle.flow_gate.proofs.Live.{Rises-closed, all-closed, closed, live-closed,
 use Rattle.flow_gate.proofs.Parts.{lent_part, stands_between}
 use Rattle.flow_gate.proofs.Rising.{Rises}
 use Rattle.flow_gate.specs.Line.{IsInOrder, IsRow, between, is_taken, live, places_of}
-use Rattle.flow_gate.specs.declared.ids.FlowId.{FlowId}
+use Rattle.flow_rules.specs.declared.ids.FlowId.{FlowId}
 use Rattle.flow_gate.specs.declared.stands.Stand.{Stand}
 use Rattle.std.proofs.Common.{ap, arith, refl, subst, sym, ◌∙◌}
 use Rattle.std.proofs.lemmas.Bool.{false≢true, ne_eqb}

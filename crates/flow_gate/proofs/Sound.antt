@@ -4,8 +4,8 @@ use Rattle.flow_gate.proofs.SameIds.{same_buffer-refl, same_buffer_exact, same_f
 use Rattle.flow_gate.specs.Board.{Board, IsSound, count, is_marked, lows, pending_on, times, times_of_buffer, watched_by, watchers_of}
 use Rattle.flow_gate.specs.Changes.{Begins, Drains, Knows, Rises, Same, Tells, without}
 use Rattle.flow_gate.specs.Ids.{same_buffer, same_flow}
-use Rattle.flow_gate.specs.declared.ids.BufferId.{BufferId}
-use Rattle.flow_gate.specs.declared.ids.FlowId.{FlowId}
+use Rattle.flow_rules.specs.declared.ids.BufferId.{BufferId}
+use Rattle.flow_rules.specs.declared.ids.FlowId.{FlowId}
 use Rattle.std.proofs.Common.{ap, arith, inl, inr, refl, subst, sym, ◌∙◌}
 use Rattle.std.proofs.lemmas.Bool.{cases_Bool}
 use Rattle.std.specs.Prelude.{Bool, List, [], cond, count_by, false, if◌then◌else◌, not, sum_by, suc, true, zero, ℕ, ◌&&◌, ◌++◌, ◌+◌, ◌*◌, ◌||◌, ◌∷◌, ◌≡◌, ◌≤◌}

@@ -6,8 +6,8 @@ use Rattle.flow_gate.proofs.Sound.{IsCounted, sound_same, times-without}
 use Rattle.flow_gate.specs.Board.{Board, IsSound, count, is_marked, lows, pending_on, times, times_of_buffer, watched_by, watchers_of}
 use Rattle.flow_gate.specs.Changes.{Closes, Forgets, Same, Watches, goes_with, without}
 use Rattle.flow_gate.specs.Ids.{is_own, same_buffer, same_flow}
-use Rattle.flow_gate.specs.declared.ids.BufferId.{BufferId}
-use Rattle.flow_gate.specs.declared.ids.FlowId.{FlowId}
+use Rattle.flow_rules.specs.declared.ids.BufferId.{BufferId}
+use Rattle.flow_rules.specs.declared.ids.FlowId.{FlowId}
 use Rattle.std.proofs.Common.{ap, arith, inl, inr, refl, subst, sym, ◌∙◌}
 use Rattle.std.proofs.lemmas.Bool.{and_parts, and_right, cases_Bool, false_from_ne_true, ne_eqb}
 use Rattle.std.proofs.lemmas.List.Sums.{sum_by-append}

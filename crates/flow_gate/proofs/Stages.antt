@@ -3,9 +3,9 @@ use Rattle.flow_gate.proofs.Orders.{flow_cmp, is_at-flow, stage_cmp}
 use Rattle.flow_gate.proofs.SameIds.{same_flow-comm, same_flow-refl, same_flow_exact}
 use Rattle.flow_gate.specs.Ids.{same_flow}
 use Rattle.flow_gate.specs.Parts.{bound_after, is_after, stage_of}
-use Rattle.flow_gate.specs.contracts.ids.FlowIdOrd.TheImpl.Laws as flow_laws
-use Rattle.flow_gate.specs.declared.ids.FlowId.{FlowId}
-use Rattle.flow_gate.specs.declared.ids.StageId.{StageId}
+use Rattle.flow_rules.specs.contracts.ids.FlowIdOrd.TheImpl.Laws as flow_laws
+use Rattle.flow_rules.specs.declared.ids.FlowId.{FlowId}
+use Rattle.flow_gate.specs.declared.buffers.StageId.{StageId}
 use Rattle.std.proofs.Common.{ap, arith, inl, inr, refl, subst, sym, ◌∙◌}
 use Rattle.std.proofs.lemmas.Bool.{cases_Bool, false≢true, ltb-true}
 use Rattle.std.proofs.lemmas.Bool.Decides.{nat_tests}

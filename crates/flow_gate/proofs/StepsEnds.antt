@@ -11,8 +11,8 @@ use Rattle.flow_gate.specs.Changes.{Forgets, Same, Watches, goes_with, without}
 use Rattle.flow_gate.specs.Ids.{is_own, same_buffer, same_flow}
 use Rattle.flow_gate.specs.Line.{Line, Places, left}
 use Rattle.flow_gate.specs.Parts.{Buffers, Flows, board_of, buffer_at, flow_at, kept, watched_in}
-use Rattle.flow_gate.specs.declared.ids.BufferId.{BufferId}
-use Rattle.flow_gate.specs.declared.ids.FlowId.{FlowId}
+use Rattle.flow_rules.specs.declared.ids.BufferId.{BufferId}
+use Rattle.flow_rules.specs.declared.ids.FlowId.{FlowId}
 use Rattle.flow_gate.specs.declared.watcher.Watch.{Watch}
 use Rattle.std.proofs.Common.{ap, arith, inl, inr, refl, sym, ◌∙◌}
 use Rattle.std.proofs.lemmas.Bool.{and_parts, cases_Bool, eqb-true}

@@ -1,7 +1,7 @@
 -- What is seen of the gates, and what holds of them at all times.
 use Rattle.flow_gate.specs.Ids.{same_buffer, same_flow}
-use Rattle.flow_gate.specs.declared.ids.BufferId.{BufferId}
-use Rattle.flow_gate.specs.declared.ids.FlowId.{FlowId}
+use Rattle.flow_rules.specs.declared.ids.BufferId.{BufferId}
+use Rattle.flow_rules.specs.declared.ids.FlowId.{FlowId}
 use Rattle.std.specs.Map.{lookup}
 use Rattle.std.specs.Option.{option_map_or}
 use Rattle.std.specs.Prelude.{Bool, List, [], count_by, false, is_some, sum_by, ℕ, ◌+◌, ◌≡◌, ◌≤◌}

@@ -1,8 +1,8 @@
 -- What each call changes: one line for each thing that is seen of the gates.
 use Rattle.flow_gate.specs.Board.{Board, count, is_known, is_marked, is_open, pending_on, times, watched_by, watchers_of}
 use Rattle.flow_gate.specs.Ids.{is_own, same_buffer, same_flow}
-use Rattle.flow_gate.specs.declared.ids.BufferId.{BufferId}
-use Rattle.flow_gate.specs.declared.ids.FlowId.{FlowId}
+use Rattle.flow_rules.specs.declared.ids.BufferId.{BufferId}
+use Rattle.flow_rules.specs.declared.ids.FlowId.{FlowId}
 use Rattle.std.specs.Prelude.{Bool, List, [], false, filter, if◌then◌else◌, length, not, ◌&&◌, ◌++◌, ◌+◌, ◌==◌, ◌||◌, ◌∷◌, ◌≡◌}
 
 -- it is seen as before, of each flow or buffer

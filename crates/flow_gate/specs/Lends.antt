@@ -5,8 +5,8 @@ use Rattle.flow_gate.specs.Named.{ByBuffer, ByFlow, WritesThrough}
 use Rattle.flow_gate.specs.contracts.buffers.Buffers.{the_row as buffers_row}
 use Rattle.flow_gate.specs.contracts.flow_map.FlowMap.{the_row as flows_row}
 use Rattle.flow_gate.specs.contracts.gate.Gate.{the_row as gate_row}
-use Rattle.flow_gate.specs.declared.ids.BufferId.{BufferId}
-use Rattle.flow_gate.specs.declared.ids.FlowId.{FlowId}
+use Rattle.flow_rules.specs.declared.ids.BufferId.{BufferId}
+use Rattle.flow_rules.specs.declared.ids.FlowId.{FlowId}
 use Rattle.std.specs.Borrow.{Fml, LendsSo, MutBor, RattleType}
 use Rattle.std.specs.Prelude.{Option, ◌≡◌}
 

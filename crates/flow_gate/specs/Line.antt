@@ -1,7 +1,7 @@
 -- The gate of one buffer, with the place of each watcher in the line.
 use Rattle.flow_gate.specs.Board.{times}
 use Rattle.flow_gate.specs.Ids.{same_flow}
-use Rattle.flow_gate.specs.declared.ids.FlowId.{FlowId}
+use Rattle.flow_rules.specs.declared.ids.FlowId.{FlowId}
 use Rattle.flow_gate.specs.declared.stands.Stand.{Stand}
 use Rattle.std.specs.BTreeMap.Range.{entries_between, range_contains}
 use Rattle.std.specs.List.{AllByRecursion, filter_map}

@@ -1,8 +1,8 @@
 -- Values by name, and how those of flows and of buffers lie side by side.
-use Rattle.flow_gate.specs.declared.ids.BufferId.{BufferId}
-use Rattle.flow_gate.specs.declared.ids.BufferId.TheVariants as buffer
-use Rattle.flow_gate.specs.declared.ids.FlowId.{FlowId}
-use Rattle.flow_gate.specs.declared.ids.StageId.{StageId}
+use Rattle.flow_rules.specs.declared.ids.BufferId.{BufferId}
+use Rattle.flow_rules.specs.declared.ids.BufferId.TheVariants as buffer
+use Rattle.flow_rules.specs.declared.ids.FlowId.{FlowId}
+use Rattle.flow_gate.specs.declared.buffers.StageId.{StageId}
 use Rattle.std.specs.Map.{lookup, set_value}
 use Rattle.std.specs.Option.{IsSome}
 use Rattle.std.specs.Prelude.{Bool, List, Option, Some, cond, false, map, true, ℕ, ◌++◌, ◌≡◌}

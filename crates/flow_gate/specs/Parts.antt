@@ -3,9 +3,9 @@ use Rattle.flow_gate.specs.Board.{Board, BufferState, FlowState, IsSound, times,
 use Rattle.flow_gate.specs.Books.{Books}
 use Rattle.flow_gate.specs.Ids.{same_buffer, same_flow}
 use Rattle.flow_gate.specs.Line.{Line, Places, at_place}
-use Rattle.flow_gate.specs.declared.ids.BufferId.{BufferId}
-use Rattle.flow_gate.specs.declared.ids.FlowId.{FlowId}
-use Rattle.flow_gate.specs.declared.ids.StageId.{StageId}
+use Rattle.flow_rules.specs.declared.ids.BufferId.{BufferId}
+use Rattle.flow_rules.specs.declared.ids.FlowId.{FlowId}
+use Rattle.flow_gate.specs.declared.buffers.StageId.{StageId}
 use Rattle.flow_gate.specs.declared.watcher.Watch.{Watch}
 use Rattle.std.specs.List.{AllByRecursion}
 use Rattle.std.specs.Map.{lookup, values_of}
@@ -13,7 +13,7 @@ use Rattle.std.specs.Option.{option_map_or}
 use Rattle.std.specs.declared.ops.Bound.{Bound}
 use Rattle.std.specs.declared.ops.Bound.TheVariants.{Excluded, Included}
 use Rattle.std.specs.Prelude.{Bool, List, None, Option, Some, [], count_by, false, if◌then◌else◌, length, map, nat_lt, sum_by, true, ℕ, ◌+◌, ◌==◌, ◌≡◌, ◌≤◌, ◌^◌}
-use Rattle.flow_gate.specs.declared.ids.BufferId.TheVariants as buffer
+use Rattle.flow_rules.specs.declared.ids.BufferId.TheVariants as buffer
 
 abbrev pub Flows : Type 0
 Flows = List (FlowId × Books)

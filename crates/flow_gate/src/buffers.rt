@@ -3,14 +3,15 @@ ghost use Rattle.flow_gate.specs.Ids.{same_buffer};
 ghost use Rattle.flow_gate.specs.Lends.{LendsBuffer};
 ghost use Rattle.flow_gate.specs.Named.{Updates};
 ghost use Rattle.flow_gate.specs.Parts.{bound_after, buffer_at, is_after};
-ghost use Rattle.flow_gate.specs.declared.ids.BufferId.{BufferId};
+ghost use Rattle.flow_rules.specs.declared.ids.BufferId.{BufferId};
+ghost use Rattle.flow_gate.specs.Parts.{stage_of};
 ghost use Rattle.std.specs.Borrow.{sem};
 ghost use Rattle.std.specs.Option.{option_copied, option_copied_mut};
 ghost use Rattle.std.specs.Prelude.{◌≡◌, ◌<◌, [], ℕ, IfNone, IfSome, None, OnErr, OnOk, Some, true};
 
 use crate::flow_map::FlowMap;
 use crate::gate::Gate;
-use crate::ids::{BufferId, FlowId, StageId, stage_of};
+use flow_rules::{BufferId, FlowId};
 use io_ports::NoMemory;
 use paged_map::PagedMap;
 use std::alloc::Global;
@@ -29,7 +30,7 @@ pub(crate) struct Buffers {
 
 impl Model for Buffers {
     ghost use Rattle.flow_gate.specs.Line.{Line};
-    ghost use Rattle.flow_gate.specs.declared.ids.BufferId.{BufferId};
+    ghost use Rattle.flow_rules.specs.declared.ids.BufferId.{BufferId};
     ghost use Rattle.std.specs.Prelude.{List};
 
     ghost Value = { List (BufferId × Line) };
@@ -133,5 +134,23 @@ fn bound_after(flow: FlowId, after: Option<u32>) -> Bound<StageId>
     match after {
         None => Bound::Included(StageId { flow, stage: 0 }),
         Some(stage) => Bound::Excluded(StageId { flow, stage }),
+    }
+}
+
+/// A stage of a flow.
+#[derive(Clone, Copy, PartialEq, Eq, PartialOrd, Ord)]
+pub(crate) struct StageId {
+    pub(crate) flow: FlowId,
+    pub(crate) stage: u32,
+}
+
+/// The number of a stage, where it is one of this flow.
+pub(crate) fn stage_of(flow: FlowId, stage: StageId) -> Option<u32>
+    ensures { result ≡ stage_of flow stage }
+{
+    if stage.flow == flow {
+        Some(stage.stage)
+    } else {
+        None
     }
 }

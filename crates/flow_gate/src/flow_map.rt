@@ -7,7 +7,7 @@ ghost use Rattle.std.specs.Borrow.{sem};
 ghost use Rattle.std.specs.Option.{option_copied, option_copied_mut};
 ghost use Rattle.std.specs.Prelude.{◌≡◌, [], None, OnErr, OnOk, Some};
 
-use crate::ids::FlowId;
+use flow_rules::FlowId;
 use io_ports::NoMemory;
 use paged_map::PagedMap;
 use std::alloc::Global;
@@ -21,7 +21,7 @@ pub(crate) struct FlowMap<V> {
 }
 
 impl<V> Model for FlowMap<V> {
-    ghost use Rattle.flow_gate.specs.declared.ids.FlowId.{FlowId};
+    ghost use Rattle.flow_rules.specs.declared.ids.FlowId.{FlowId};
     ghost use Rattle.std.specs.Prelude.{List};
 
     ghost Value = { List (FlowId × V) };

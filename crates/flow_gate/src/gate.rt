@@ -2,9 +2,9 @@
 ghost use Rattle.std.specs.Prelude.{◌≡◌, ◌↔◌, ◌∷◌, ◌++◌, ◌+◌, ◌≤◌, [], drop, false, true, IfOk, OnErr, None, Some, slice_get, option_map};
 ghost use Rattle.std.specs.Map.{values_of};
 ghost use Rattle.flow_gate.specs.Board.{times};
-ghost use Rattle.flow_gate.specs.declared.ids.FlowId.{FlowId};
+ghost use Rattle.flow_rules.specs.declared.ids.FlowId.{FlowId};
 
-use crate::ids::FlowId;
+use flow_rules::FlowId;
 use crate::line::Watchers;
 use crate::row::{add_last, make_whole};
 use crate::stands::{Stand, between, close_up, first, leave, place_after, span};

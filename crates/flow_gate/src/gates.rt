@@ -5,12 +5,12 @@ ghost use Rattle.flow_gate.specs.Changes.{Begins, Closes, Drains, Forgets, IsEmp
 ghost use Rattle.flow_gate.specs.Ids.{same_buffer};
 ghost use Rattle.flow_gate.specs.Line.{Line, held_in, left, told};
 ghost use Rattle.flow_gate.specs.Parts.{AreWatches, StandsIn, above_at, buffer_at, held, is_stage, kept, watched_in};
-ghost use Rattle.flow_gate.specs.declared.ids.BufferId.{BufferId};
-ghost use Rattle.flow_gate.specs.declared.ids.FlowId.{FlowId};
+ghost use Rattle.flow_rules.specs.declared.ids.BufferId.{BufferId};
+ghost use Rattle.flow_rules.specs.declared.ids.FlowId.{FlowId};
 
 use crate::buffers::Buffers;
 use crate::flow_map::FlowMap;
-use crate::ids::{BufferId, FlowId};
+use flow_rules::{BufferId, FlowId};
 use crate::line::Watchers;
 use crate::spares::Spares;
 use crate::watcher::{Watch, Watcher};

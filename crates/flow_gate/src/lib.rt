@@ -5,13 +5,12 @@ mod buffers;
 mod flow_map;
 mod gate;
 mod gates;
-mod ids;
 mod line;
 mod row;
 mod spares;
 mod stands;
 mod watcher;
 
+pub use flow_rules::{BufferId, FlowId};
 pub use gates::Gates;
-pub use ids::{BufferId, FlowId};
 pub use line::Watchers;

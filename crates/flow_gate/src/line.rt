@@ -4,7 +4,7 @@ ghost use Rattle.std.specs.Iterator.{YieldsFirst, item_count};
 ghost use Rattle.std.specs.Map.{values_of};
 ghost use Rattle.flow_gate.specs.Line.{live};
 
-use crate::ids::FlowId;
+use flow_rules::FlowId;
 use crate::stands::{Stand, count, split_first};
 use std::marker::Model;
 
@@ -21,7 +21,7 @@ impl<'a> Model for Watchers<'a> {
     ghost use Rattle.std.specs.Prelude.{List, ◌++◌};
     ghost use Rattle.std.specs.Map.{values_of};
     ghost use Rattle.flow_gate.specs.Line.{live};
-    ghost use Rattle.flow_gate.specs.declared.ids.FlowId.{FlowId};
+    ghost use Rattle.flow_rules.specs.declared.ids.FlowId.{FlowId};
 
     ghost Value = { List FlowId };
 

@@ -4,7 +4,7 @@ ghost use Rattle.flow_gate.specs.declared.stands.Stand.{Stand};
 ghost use Rattle.std.specs.Map.{values_of};
 ghost use Rattle.flow_gate.specs.Line.{IsRow, is_taken, live};
 
-use crate::ids::FlowId;
+use flow_rules::FlowId;
 use crate::stands::Stand;
 use io_ports::NoMemory;
 

@@ -7,7 +7,7 @@ ghost use Rattle.std.specs.Map.{remove_entry, values_of};
 ghost use Rattle.std.specs.Ordering.{nat_cmp};
 ghost use Rattle.flow_gate.specs.Line.{IsBefore, between, is_between, is_taken, live, places_of};
 
-use crate::ids::FlowId;
+use flow_rules::FlowId;
 
 /// A place in a line, and the flow that stands there; none where it left.
 #[derive(Clone, Copy)]

@@ -1,7 +1,7 @@
 // What one flow watches.
 ghost use Rattle.std.specs.Prelude.{◌≡◌, ◌∷◌, ◌++◌, ◌<◌, ◌^◌, [], OnOk, length};
 
-use crate::ids::BufferId;
+use flow_rules::BufferId;
 use io_ports::NoMemory;
 use std::alloc::Global;
 use std::marker::Model;

@@ -1,6 +1,6 @@
 -- The balance of counts, by induction over the history.
-use Rattle.flow_gate.specs.declared.ids.BufferId.{BufferId}
-use Rattle.flow_gate.specs.declared.ids.FlowId.{FlowId}
+use Rattle.flow_rules.specs.declared.ids.BufferId.{BufferId}
+use Rattle.flow_rules.specs.declared.ids.FlowId.{FlowId}
 use Rattle.flow_laws.proofs.Crossings.{EasedToDrain, FedToRise, sources_cross}
 use Rattle.flow_laws.proofs.Flags.{crossing}
 use Rattle.flow_laws.proofs.Lists.{both, buffer_is, buffer_same, by_case, count_append, count_cons, flow_is, flow_swapped, none, not_both, number_is, one_if, or_left, or_right}

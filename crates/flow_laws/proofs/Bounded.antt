@@ -1,5 +1,5 @@
 -- No buffer holds more than its bound, where each step fits in.
-use Rattle.flow_gate.specs.declared.ids.FlowId.{FlowId}
+use Rattle.flow_rules.specs.declared.ids.FlowId.{FlowId}
 use Rattle.flow_laws.proofs.Induction.{both_follow}
 use Rattle.flow_laws.proofs.Lives.{each_of}
 use Rattle.flow_laws.proofs.Rooms.{HasRoom, rooms}

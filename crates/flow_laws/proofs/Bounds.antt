@@ -1,5 +1,5 @@
 -- No buffer of a flow holds more than its bound.
-use Rattle.flow_gate.specs.declared.ids.FlowId.{FlowId}
+use Rattle.flow_rules.specs.declared.ids.FlowId.{FlowId}
 use Rattle.flow_laws.proofs.Flags.{within_limit}
 use Rattle.flow_laws.proofs.Sources.{at_stage}
 use Rattle.flow_rules.specs.Kinds.{Hold as HoldKind, Kind, Meter as MeterKind, Send as SendKind, is_overfilled}
@@ -19,7 +19,7 @@ use Rattle.tape_laws.specs.State.{state_of}
 use Rattle.tape_laws.specs.Units.{Hold, Meter, StageKind, kind_of}
 use Rattle.tape_laws.specs.Watermark.{above, kind_limit, limit, stage_limit}
 use Rattle.tape_laws.specs.World.{len, place}
-use Rattle.flow_gate.specs.declared.ids.BufferId.TheVariants as buffer
+use Rattle.flow_rules.specs.declared.ids.BufferId.TheVariants as buffer
 
 -- ---- the stages of a flow from place p on, where it moves n octets out of place q
 within_or : (x y : Bool) → x ≡ true → (x && y) ≡ false → y ≡ false

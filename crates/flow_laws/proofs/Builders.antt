@@ -1,6 +1,6 @@
 -- One builder for each kind of step: from what a core knows there, what it owes to every law of what may follow.
-use Rattle.flow_gate.specs.declared.ids.BufferId.{BufferId}
-use Rattle.flow_gate.specs.declared.ids.FlowId.{FlowId}
+use Rattle.flow_rules.specs.declared.ids.BufferId.{BufferId}
+use Rattle.flow_rules.specs.declared.ids.FlowId.{FlowId}
 use Rattle.flow_laws.proofs.Ends.{ends_empty}
 use Rattle.flow_laws.proofs.Lists.{both, by_case}
 use Rattle.flow_laws.proofs.Lives.{is_live_is, is_of, lives}

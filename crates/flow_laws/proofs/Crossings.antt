@@ -1,6 +1,6 @@
 -- A source of a flow that lives on rises only where it is fed, and drains only where it is eased.
-use Rattle.flow_gate.specs.declared.ids.BufferId.{BufferId}
-use Rattle.flow_gate.specs.declared.ids.FlowId.{FlowId}
+use Rattle.flow_rules.specs.declared.ids.BufferId.{BufferId}
+use Rattle.flow_rules.specs.declared.ids.FlowId.{FlowId}
 use Rattle.flow_laws.proofs.Flags.{no_drain, no_rise}
 use Rattle.flow_laws.proofs.Lengths.{Arrives, Comes, Doomed, Easing, Feeding, Framed, Leaves, NotEased, NotFed, easing, feeding, out_eased, out_fed}
 use Rattle.flow_laws.proofs.Lists.{not_both, not_so, same_number}
@@ -22,7 +22,7 @@ use Rattle.tape_laws.specs.Sources.{is_live, live_flows, source_buffers}
 use Rattle.tape_laws.specs.Units.{StageKind}
 use Rattle.tape_laws.specs.Watermark.{drains_at, limit, rises_at, stage_limit}
 use Rattle.tape_laws.specs.World.{last_place, len, out, place}
-use Rattle.flow_gate.specs.declared.ids.BufferId.TheVariants as buffer
+use Rattle.flow_rules.specs.declared.ids.BufferId.TheVariants as buffer
 use Rattle.flow_notes.specs.declared.notes.Note.TheVariants as note
 
 -- what holds before a turn

@@ -1,5 +1,5 @@
 -- END_STREAM goes once, and leaves nothing of its flow behind.
-use Rattle.flow_gate.specs.declared.ids.FlowId.{FlowId}
+use Rattle.flow_rules.specs.declared.ids.FlowId.{FlowId}
 use Rattle.flow_laws.proofs.Induction.{by_life}
 use Rattle.flow_laws.proofs.Lengths.{Arrives, Comes, Feeding, NotFed, feeding}
 use Rattle.flow_laws.proofs.Lists.{both, by_case, flow_is, flow_same, not_both, number_is, one_if}

@@ -1,5 +1,5 @@
 -- What holds of a flow when it starts, and is kept by each step that neither starts nor dooms it, holds while it lives.
-use Rattle.flow_gate.specs.declared.ids.FlowId.{FlowId}
+use Rattle.flow_rules.specs.declared.ids.FlowId.{FlowId}
 use Rattle.flow_laws.proofs.Lists.{both, by_case, number_is}
 use Rattle.flow_laws.proofs.Lives.{is_live_is, is_of, lives}
 use Rattle.flow_laws.proofs.Spared.{IsUnborn, life_stays, lives_spared, spares, unborn}

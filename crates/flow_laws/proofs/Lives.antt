@@ -1,5 +1,5 @@
 -- The exchanges that live, each once, and their flows.
-use Rattle.flow_gate.specs.declared.ids.FlowId.{FlowId}
+use Rattle.flow_rules.specs.declared.ids.FlowId.{FlowId}
 use Rattle.flow_laws.proofs.Lists.{by_case, count_append, count_cons, flow_is, flow_same, number_is, one_if, or_left, or_none, or_right, or_true, same_number, swapped}
 use Rattle.flow_laws.specs.Ways.{AreApart, HasWays}
 use Rattle.std.proofs.Common.{ap, arith, refl, subst, sym, ◌∙◌}

@@ -1,5 +1,5 @@
 -- Nothing is lost while a flow lives, and what it sent is a front of what it received ever after.
-use Rattle.flow_gate.specs.declared.ids.FlowId.{FlowId}
+use Rattle.flow_rules.specs.declared.ids.FlowId.{FlowId}
 use Rattle.flow_laws.proofs.Induction.{by_life}
 use Rattle.flow_laws.proofs.Lists.{by_case, flow_is, flow_same, not_both}
 use Rattle.flow_laws.proofs.Lives.{each_of}

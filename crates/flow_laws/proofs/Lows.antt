@@ -1,6 +1,6 @@
 -- Who is still to be told of a drain, step by step.
-use Rattle.flow_gate.specs.declared.ids.BufferId.{BufferId}
-use Rattle.flow_gate.specs.declared.ids.FlowId.{FlowId}
+use Rattle.flow_rules.specs.declared.ids.BufferId.{BufferId}
+use Rattle.flow_rules.specs.declared.ids.FlowId.{FlowId}
 use Rattle.flow_laws.proofs.Lists.{buffer_is, buffer_same, by_case, count_append, count_cons, count_filter, number_is, one_if}
 use Rattle.flow_laws.proofs.Lives.{Lives, is_of, live_once, lives}
 use Rattle.flow_laws.proofs.Sources.{sources_stay}
@@ -20,7 +20,7 @@ use Rattle.tape_laws.specs.Pauses.{Heads, PausesInOrder, pending_lows, place_buf
 use Rattle.tape_laws.specs.Setup.{Setup}
 use Rattle.tape_laws.specs.Sources.{live_flows, source_buffers, watchers}
 use Rattle.tape_laws.specs.Watermark.{drains_at}
-use Rattle.flow_gate.specs.declared.ids.BufferId.TheVariants as buffer
+use Rattle.flow_rules.specs.declared.ids.BufferId.TheVariants as buffer
 use Rattle.flow_notes.specs.declared.notes.CloseCause.TheVariants as closed
 use Rattle.flow_notes.specs.declared.notes.Note.TheVariants as note
 

@@ -1,5 +1,5 @@
 -- All laws apply to the made-up kind of session.
-use Rattle.flow_gate.specs.declared.ids.FlowId.{FlowId}
+use Rattle.flow_rules.specs.declared.ids.FlowId.{FlowId}
 use Rattle.flow_laws.proofs.Balance.{counts_balance}
 use Rattle.flow_laws.proofs.Builders.{steps_are_sound}
 use Rattle.flow_laws.proofs.Ends.{at_most_once}

@@ -1,5 +1,5 @@
 -- What a move may carry: it leaves a place before the send buffer, behind which no source is above.
-use Rattle.flow_gate.specs.declared.ids.FlowId.{FlowId}
+use Rattle.flow_rules.specs.declared.ids.FlowId.{FlowId}
 use Rattle.flow_laws.proofs.Lists.{both, not_so, or_none}
 use Rattle.flow_rules.specs.Kinds.{Hold as HoldKind, Kind, Meter as MeterKind, Send as SendKind, let_go}
 use Rattle.flow_rules.specs.Moves.{is_free as is_free_at, last_free_to, later_above, may_release as releases}

@@ -1,5 +1,5 @@
 -- What a live flow received is what it sent, then what lies in its places.
-use Rattle.flow_gate.specs.declared.ids.FlowId.{FlowId}
+use Rattle.flow_rules.specs.declared.ids.FlowId.{FlowId}
 use Rattle.flow_laws.proofs.Lists.{by_case, flow_same, number_is, same_number}
 use Rattle.flow_laws.specs.Octets.{lying}
 use Rattle.std.proofs.Common.{ap, append_assoc, arith, refl, sym, ◌∙◌}

@@ -1,6 +1,6 @@
 -- Pauses after a rise, and tellings after a drain, stand in their order.
-use Rattle.flow_gate.specs.declared.ids.BufferId.{BufferId}
-use Rattle.flow_gate.specs.declared.ids.FlowId.{FlowId}
+use Rattle.flow_rules.specs.declared.ids.BufferId.{BufferId}
+use Rattle.flow_rules.specs.declared.ids.FlowId.{FlowId}
 use Rattle.flow_laws.proofs.Lists.{buffer_is, not_both, or_left, or_right}
 use Rattle.flow_laws.proofs.Lows.{heads_is}
 use Rattle.flow_laws.specs.Steps.{after}
@@ -16,7 +16,7 @@ use Rattle.tape_laws.specs.Pauses.{Heads, Owed, PausesInOrder, due_pauses, is_si
 use Rattle.tape_laws.specs.Setup.{Setup}
 use Rattle.tape_laws.specs.Sources.{watchers}
 use Rattle.tape_laws.specs.Watermark.{drains_at}
-use Rattle.flow_gate.specs.declared.ids.BufferId.TheVariants as buffer
+use Rattle.flow_rules.specs.declared.ids.BufferId.TheVariants as buffer
 use Rattle.flow_notes.specs.declared.notes.CloseCause.TheVariants as closed
 use Rattle.flow_notes.specs.declared.notes.Note.TheVariants as note
 

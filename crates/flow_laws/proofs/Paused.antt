@@ -1,6 +1,6 @@
 -- The pauses that are due and the lows that are pending are of live flows.
-use Rattle.flow_gate.specs.declared.ids.BufferId.{BufferId}
-use Rattle.flow_gate.specs.declared.ids.FlowId.{FlowId}
+use Rattle.flow_rules.specs.declared.ids.BufferId.{BufferId}
+use Rattle.flow_rules.specs.declared.ids.FlowId.{FlowId}
 use Rattle.flow_laws.proofs.Lists.{both, by_case, count_cons, flow_same, one_if, or_left, or_right, same_number}
 use Rattle.flow_laws.proofs.Lives.{has_more, is_of}
 use Rattle.flow_laws.proofs.Lows.{heads_is, untold, watches}
@@ -16,7 +16,7 @@ use Rattle.tape_laws.specs.Pauses.{Heads, Owed, due_pauses, pending_lows, place_
 use Rattle.tape_laws.specs.Setup.{Setup}
 use Rattle.tape_laws.specs.Sources.{live_flows, source_buffers, watchers}
 use Rattle.tape_laws.specs.Watermark.{above, rises_at}
-use Rattle.flow_gate.specs.declared.ids.BufferId.TheVariants as buffer
+use Rattle.flow_rules.specs.declared.ids.BufferId.TheVariants as buffer
 use Rattle.flow_notes.specs.declared.notes.Note.TheVariants as note
 
 module _ {Mark : Type 0} (setup : Setup Mark) (ways : HasWays setup) where

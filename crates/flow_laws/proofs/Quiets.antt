@@ -1,6 +1,6 @@
 -- A core that rests is quiet.
-use Rattle.flow_gate.specs.declared.ids.BufferId.{BufferId}
-use Rattle.flow_gate.specs.declared.ids.FlowId.{FlowId}
+use Rattle.flow_rules.specs.declared.ids.BufferId.{BufferId}
+use Rattle.flow_rules.specs.declared.ids.FlowId.{FlowId}
 use Rattle.flow_laws.proofs.Balance.{balance}
 use Rattle.flow_laws.proofs.Lists.{count_cons, one_if}
 use Rattle.flow_laws.proofs.Lives.{each_at, each_of}

@@ -1,5 +1,5 @@
 -- The receive buffer, the stages and the send buffer of a live flow stay within their bounds.
-use Rattle.flow_gate.specs.declared.ids.FlowId.{FlowId}
+use Rattle.flow_rules.specs.declared.ids.FlowId.{FlowId}
 use Rattle.flow_laws.proofs.Bounds.{Grows, send_low, stages_room, stand_all}
 use Rattle.flow_laws.proofs.Flags.{within_limit}
 use Rattle.flow_laws.proofs.Induction.{by_life}
@@ -21,7 +21,7 @@ use Rattle.tape_laws.specs.Setup.{Setup}
 use Rattle.tape_laws.specs.Sources.{is_live}
 use Rattle.tape_laws.specs.Units.{StageKind}
 use Rattle.tape_laws.specs.World.{last_place, place}
-use Rattle.flow_gate.specs.declared.ids.BufferId.TheVariants as buffer
+use Rattle.flow_rules.specs.declared.ids.BufferId.TheVariants as buffer
 use Rattle.flow_notes.specs.declared.notes.Note.TheVariants as note
 
 -- how a step may make a flow's stages longer: by a move of that flow

@@ -1,6 +1,6 @@
 -- The sources of a flow: its Meters, its send buffer and the write buffer that it goes to, each another buffer.
-use Rattle.flow_gate.specs.declared.ids.BufferId.{BufferId}
-use Rattle.flow_gate.specs.declared.ids.FlowId.{FlowId}
+use Rattle.flow_rules.specs.declared.ids.BufferId.{BufferId}
+use Rattle.flow_rules.specs.declared.ids.FlowId.{FlowId}
 use Rattle.flow_laws.proofs.Lists.{same_number}
 use Rattle.flow_laws.specs.Ways.{AreApart}
 use Rattle.flow_rules.specs.Kinds.{Send as SendKind}
@@ -16,7 +16,7 @@ use Rattle.tape_laws.specs.Setup.{Setup}
 use Rattle.tape_laws.specs.Sources.{source_buffers}
 use Rattle.tape_laws.specs.Units.{Hold, Meter, StageKind, kind_of}
 use Rattle.tape_laws.specs.World.{last_place}
-use Rattle.flow_gate.specs.declared.ids.BufferId.TheVariants as buffer
+use Rattle.flow_rules.specs.declared.ids.BufferId.TheVariants as buffer
 
 -- the buffers behind place q, by the stages from there on and by the connection that the flow goes to
 abbrev pub behind : FlowId → ℕ → List StageKind → ℕ → Option ℕ → List BufferId

@@ -1,5 +1,5 @@
 -- Flows that a step neither starts nor dooms.
-use Rattle.flow_gate.specs.declared.ids.FlowId.{FlowId}
+use Rattle.flow_rules.specs.declared.ids.FlowId.{FlowId}
 use Rattle.flow_laws.proofs.Lists.{both, by_case, flow_is, not_both, or_none}
 use Rattle.flow_laws.proofs.Lives.{Lives, has_more, has_without, lives}
 use Rattle.flow_laws.specs.Ways.{starts}

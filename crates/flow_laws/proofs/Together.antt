@@ -1,5 +1,5 @@
 -- The receive buffers of all flows from one connection hold at most its window together.
-use Rattle.flow_gate.specs.declared.ids.FlowId.{FlowId}
+use Rattle.flow_rules.specs.declared.ids.FlowId.{FlowId}
 use Rattle.flow_laws.proofs.Lengths.{Arrives, Comes, Feeding, NotFed, feeding}
 use Rattle.flow_laws.proofs.Lists.{by_case, count_cons, flow_is, flow_same, not_both, number_is, one_if, or_none}
 use Rattle.flow_laws.proofs.Lives.{EachOnce, Lives, count_among, lives}

@@ -1,5 +1,5 @@
 -- What is told by the unit that a connection frames next.
-use Rattle.flow_gate.specs.declared.ids.FlowId.{FlowId}
+use Rattle.flow_rules.specs.declared.ids.FlowId.{FlowId}
 use Rattle.flow_laws.proofs.Lists.{both, by_case, flow_is, flow_same, not_both, number_is, or_left, or_right, or_true}
 use Rattle.flow_rules.specs.State.{FlowState}
 use Rattle.flow_rules.specs.Units.{carried, carries_end as ends_with, ends_after, head_may_go, is_unit, next_head, next_unit as first_unit}

@@ -1,6 +1,6 @@
 -- Those who watch a source that crosses are paused, or are to be told.
-use Rattle.flow_gate.specs.declared.ids.BufferId.{BufferId}
-use Rattle.flow_gate.specs.declared.ids.FlowId.{FlowId}
+use Rattle.flow_rules.specs.declared.ids.BufferId.{BufferId}
+use Rattle.flow_rules.specs.declared.ids.FlowId.{FlowId}
 use Rattle.flow_laws.proofs.Crossings.{sources_cross}
 use Rattle.flow_laws.proofs.Induction.{new_then}
 use Rattle.flow_laws.proofs.Lists.{both, buffer_same, by_case, not_both}
@@ -22,7 +22,7 @@ use Rattle.tape_laws.specs.Pauses.{Owed, due_pauses, pending_lows, place_buffer}
 use Rattle.tape_laws.specs.Setup.{Setup}
 use Rattle.tape_laws.specs.Sources.{is_live, source_buffers, watchers}
 use Rattle.tape_laws.specs.Watermark.{drains_at, rises_at}
-use Rattle.flow_gate.specs.declared.ids.BufferId.TheVariants as buffer
+use Rattle.flow_rules.specs.declared.ids.BufferId.TheVariants as buffer
 use Rattle.flow_notes.specs.declared.notes.CloseCause.TheVariants as closed
 use Rattle.flow_notes.specs.declared.notes.Note.TheVariants as note
 

@@ -1,5 +1,5 @@
 -- A write buffer holds at most its limit and one unit.
-use Rattle.flow_gate.specs.declared.ids.FlowId.{FlowId}
+use Rattle.flow_rules.specs.declared.ids.FlowId.{FlowId}
 use Rattle.flow_laws.proofs.Flags.{within_limit}
 use Rattle.flow_laws.proofs.Lengths.{close_fed, dropped, turn_fed}
 use Rattle.flow_laws.proofs.Lists.{number_is}
@@ -13,7 +13,7 @@ use Rattle.tape_laws.specs.Release.{MayStand}
 use Rattle.tape_laws.specs.Setup.{Setup}
 use Rattle.tape_laws.specs.Watermark.{above}
 use Rattle.tape_laws.specs.World.{data_frame, last_place, out, place, send, window_update}
-use Rattle.flow_gate.specs.declared.ids.BufferId.TheVariants as buffer
+use Rattle.flow_rules.specs.declared.ids.BufferId.TheVariants as buffer
 use Rattle.flow_notes.specs.declared.notes.Note.TheVariants as note
 
 same_len : (n : ℕ) → n ≤ n

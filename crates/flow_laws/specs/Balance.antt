@@ -1,5 +1,5 @@
 -- The balance of counts: how often a flow is paused, resumed and about to be either is how many of its sources are above.
-use Rattle.flow_gate.specs.declared.ids.FlowId.{FlowId}
+use Rattle.flow_rules.specs.declared.ids.FlowId.{FlowId}
 use Rattle.std.specs.Prelude.{IfSome, List, count_by, false, ℕ, ◌+◌, ◌≡◌}
 use Rattle.tape_laws.specs.Connections.{was_closed}
 use Rattle.tape_laws.specs.Doomed.{LeavesDoomed}

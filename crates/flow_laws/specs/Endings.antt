@@ -1,5 +1,5 @@
 -- END_STREAM goes once, with the last octet (RFC 9113 section 8.1).
-use Rattle.flow_gate.specs.declared.ids.FlowId.{FlowId}
+use Rattle.flow_rules.specs.declared.ids.FlowId.{FlowId}
 use Rattle.std.specs.Option.{option_map_or}
 use Rattle.std.specs.Prelude.{IfSome, [], false, if◌then◌else◌, true, ℕ, ◌&&◌, ◌+◌, ◌∷◌, ◌≡◌}
 use Rattle.tape_laws.specs.Ends.{end_framed, pick_ends}

@@ -1,6 +1,6 @@
 -- What a core knows at a step, by the kind of step: the facts from which every law of what may follow is met.
-use Rattle.flow_gate.specs.declared.ids.BufferId.{BufferId}
-use Rattle.flow_gate.specs.declared.ids.FlowId.{FlowId}
+use Rattle.flow_rules.specs.declared.ids.BufferId.{BufferId}
+use Rattle.flow_rules.specs.declared.ids.FlowId.{FlowId}
 use Rattle.flow_laws.specs.Balance.{LeavesClosed}
 use Rattle.flow_laws.specs.Endings.{HeadInTime}
 use Rattle.flow_laws.specs.Fitting.{FitsWindow}

@@ -1,5 +1,5 @@
 -- What a step may bring, so that no buffer holds more than its bound.
-use Rattle.flow_gate.specs.declared.ids.FlowId.{FlowId}
+use Rattle.flow_rules.specs.declared.ids.FlowId.{FlowId}
 use Rattle.flow_rules.specs.Moves.{overfills}
 use Rattle.std.specs.Prelude.{IfSome, false, length, ℕ, ◌+◌, ◌≡◌, ◌≤◌}
 use Rattle.tape_laws.specs.Bounds.{held_from, unit_size}

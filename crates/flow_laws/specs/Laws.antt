@@ -1,6 +1,6 @@
 -- The laws, each of any setup whose flows have ways, and of any marks.
-use Rattle.flow_gate.specs.declared.ids.BufferId.{BufferId}
-use Rattle.flow_gate.specs.declared.ids.FlowId.{FlowId}
+use Rattle.flow_rules.specs.declared.ids.BufferId.{BufferId}
+use Rattle.flow_rules.specs.declared.ids.FlowId.{FlowId}
 use Rattle.flow_laws.specs.Balance.{IsBalanced, IsPaced}
 use Rattle.flow_laws.specs.Endings.{EndsInTime, IsEmptied, times_ended}
 use Rattle.flow_laws.specs.Facts.{ArrivesNow, ComesNow, CreditsNow, DoomsNow, FiresNow, FramesNow, GoesNow, MovesNow, PausesNow, PicksNow, ResumesNow, StartsNow, TurnsNow, WritesNow}

@@ -1,6 +1,6 @@
 -- A small made-up kind of session that shows what the laws need: connections 1 and 2, and exchanges between them whose requests
 -- pass a Meter and whose responses pass a Hold.
-use Rattle.flow_gate.specs.declared.ids.FlowId.{FlowId}
+use Rattle.flow_rules.specs.declared.ids.FlowId.{FlowId}
 use Rattle.flow_laws.specs.Balance.{IsBalanced}
 use Rattle.flow_laws.specs.Endings.{times_ended}
 use Rattle.flow_laws.specs.Laws.{GoesOnSoundly}

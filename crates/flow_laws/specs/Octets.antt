@@ -1,5 +1,5 @@
 -- Octets are neither lost nor made: what a flow received is what it sent, then what lies in its places.
-use Rattle.flow_gate.specs.declared.ids.FlowId.{FlowId}
+use Rattle.flow_rules.specs.declared.ids.FlowId.{FlowId}
 use Rattle.std.specs.Prelude.{List, suc, true, zero, ℕ, ◌++◌, ◌∷◌, ◌≡◌}
 use Rattle.tape_laws.specs.Dispatches.{has, started}
 use Rattle.tape_laws.specs.History.{History, Noted, Step}

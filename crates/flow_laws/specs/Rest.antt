@@ -15,7 +15,7 @@ use Rattle.tape_laws.specs.Setup.{Session}
 use Rattle.tape_laws.specs.Sources.{EachLive, source_buffers}
 use Rattle.tape_laws.specs.Watermark.{above}
 use Rattle.tape_laws.specs.World.{received}
-use Rattle.flow_gate.specs.declared.ids.BufferId.TheVariants as buffer
+use Rattle.flow_rules.specs.declared.ids.BufferId.TheVariants as buffer
 
 pub record IsResting {Mark : Type 0} (session : Session Mark) (past : History Mark) : Type 0 where
   -- no pause is due, and nobody is still to be told of a source of a live flow

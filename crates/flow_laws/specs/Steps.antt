@@ -1,10 +1,10 @@
 -- Steps that follow one another, and which buffer a step feeds and eases.
-use Rattle.flow_gate.specs.declared.ids.BufferId.{BufferId}
+use Rattle.flow_rules.specs.declared.ids.BufferId.{BufferId}
 use Rattle.std.specs.Prelude.{List, None, Option, Some, [], ◌+◌, ◌∷◌}
 use Rattle.tape_laws.specs.History.{History, Noted, Step}
 use Rattle.tape_laws.specs.Pauses.{place_buffer}
 use Rattle.tape_laws.specs.Setup.{Setup}
-use Rattle.flow_gate.specs.declared.ids.BufferId.TheVariants as buffer
+use Rattle.flow_rules.specs.declared.ids.BufferId.TheVariants as buffer
 use Rattle.flow_notes.specs.declared.notes.CloseCause.TheVariants as closed
 use Rattle.flow_notes.specs.declared.notes.Note.TheVariants as note
 

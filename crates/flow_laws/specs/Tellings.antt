@@ -1,6 +1,6 @@
 -- The order in which flows are paused after a rise, and told of a drain.
-use Rattle.flow_gate.specs.declared.ids.BufferId.{BufferId}
-use Rattle.flow_gate.specs.declared.ids.FlowId.{FlowId}
+use Rattle.flow_rules.specs.declared.ids.BufferId.{BufferId}
+use Rattle.flow_rules.specs.declared.ids.FlowId.{FlowId}
 use Rattle.flow_laws.specs.Steps.{after, eased_by, fed_by}
 use Rattle.std.specs.Prelude.{Bool, IsTrue, List, Some, [], false, if◌then◌else◌, map, true, ℕ, ◌++◌, ◌==◌, ◌||◌, ◌∷◌, ◌≡◌, ◌⊎◌}
 use Rattle.tape_laws.specs.Connections.{was_closed}
@@ -10,7 +10,7 @@ use Rattle.tape_laws.specs.Pauses.{Owed, due_pauses, pending_lows}
 use Rattle.tape_laws.specs.Setup.{Setup}
 use Rattle.tape_laws.specs.Sources.{watchers}
 use Rattle.tape_laws.specs.Watermark.{drains_at, rises_at}
-use Rattle.flow_gate.specs.declared.ids.BufferId.TheVariants as buffer
+use Rattle.flow_rules.specs.declared.ids.BufferId.TheVariants as buffer
 use Rattle.flow_notes.specs.declared.notes.Note.TheVariants as note
 
 -- the pause notes of these pauses

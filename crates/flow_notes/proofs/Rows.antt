@@ -1,5 +1,5 @@
 -- The notes that rows of flows stand for.
-use Rattle.flow_gate.specs.declared.ids.FlowId.{FlowId}
+use Rattle.flow_rules.specs.declared.ids.FlowId.{FlowId}
 use Rattle.flow_notes.specs.Rows.{all_notes, alone_in, flows_in, notes_of, rows_of, with_row}
 use Rattle.flow_notes.specs.declared.notes.Note.{Note}
 use Rattle.flow_notes.specs.declared.passages.Item.{Item}

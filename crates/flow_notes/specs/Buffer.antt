@@ -1,8 +1,8 @@
 -- How a buffer of a flow is spelled.
 use Rattle.std.specs.Prelude.{List, [], ℕ, ◌∷◌, codes}
 use Rattle.std.specs.Fmt.{decimal}
-use Rattle.flow_gate.specs.declared.ids.BufferId.{BufferId}
-use Rattle.flow_gate.specs.declared.ids.BufferId.TheVariants.{Recv, Stage, Send, Write}
+use Rattle.flow_rules.specs.declared.ids.BufferId.{BufferId}
+use Rattle.flow_rules.specs.declared.ids.BufferId.TheVariants.{Recv, Stage, Send, Write}
 
 -- A buffer of a flow is spelled without the flow, which stands before it. A receive buffer has no words.
 abbrev pub buffer_words : BufferId → List (List ℕ)

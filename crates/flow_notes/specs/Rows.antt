@@ -1,7 +1,7 @@
 -- Notes that stand as items: a note alone, or a row of pauses or resumes, whose flows stand in a list of their own.
 use Rattle.std.specs.List.{AllByRecursion, flat_map, sum_by}
 use Rattle.std.specs.Prelude.{List, [], drop, if◌then◌else◌, length, map, take, ℕ, ◌++◌, ◌+◌, ◌<◌, ◌==◌, ◌∷◌, ◌≡◌}
-use Rattle.flow_gate.specs.declared.ids.FlowId.{FlowId}
+use Rattle.flow_rules.specs.declared.ids.FlowId.{FlowId}
 use Rattle.flow_notes.specs.declared.notes.Note.{Note}
 use Rattle.flow_notes.specs.declared.passages.Item.{Item}
 use Rattle.flow_notes.specs.declared.notes.Note.TheVariants as note

@@ -1,7 +1,7 @@
 -- Words that are those of a value.
 use Rattle.std.specs.Prelude.{◌≡◌, ℕ, List, ◌∷◌, false}
-use Rattle.flow_gate.specs.declared.ids.BufferId.{BufferId}
-use Rattle.flow_gate.specs.declared.ids.FlowId.{FlowId}
+use Rattle.flow_rules.specs.declared.ids.BufferId.{BufferId}
+use Rattle.flow_rules.specs.declared.ids.FlowId.{FlowId}
 use Rattle.flow_notes.specs.Buffer.{buffer_words}
 use Rattle.flow_rules.specs.Pausing.{CanPause}
 use Rattle.flow_notes.specs.Cause.{cause_words}

@@ -1,7 +1,7 @@
 // What a core did, note by note.
 ghost use Rattle.std.specs.Iterator.{Drains, IsFinite};
 ghost use Rattle.std.specs.Prelude.{◌≡◌, ◌==◌, ◌++◌, ◌∷◌, ◌-◌, ◌<◌, ◌≤◌, List, [], length, map, take, IfOk, OnOk, OnErr};
-ghost use Rattle.flow_gate.specs.declared.ids.FlowId.{FlowId};
+ghost use Rattle.flow_rules.specs.declared.ids.FlowId.{FlowId};
 ghost use Rattle.flow_notes.specs.Rows.{flows_in, with_row};
 
 use crate::Event;

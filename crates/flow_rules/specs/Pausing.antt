@@ -1,7 +1,7 @@
 -- The buffers that pause a flow.
-use Rattle.flow_gate.specs.declared.ids.BufferId.{BufferId}
-use Rattle.flow_gate.specs.declared.ids.BufferId.TheVariants.{Recv, Stage, Send, Write}
-use Rattle.flow_gate.specs.declared.ids.FlowId.{FlowId}
+use Rattle.flow_rules.specs.declared.ids.BufferId.{BufferId}
+use Rattle.flow_rules.specs.declared.ids.BufferId.TheVariants.{Recv, Stage, Send, Write}
+use Rattle.flow_rules.specs.declared.ids.FlowId.{FlowId}
 use Rattle.std.specs.Prelude.{◌≡◌, ◌≤◌}
 
 -- a write buffer, or a stage or the send buffer of this same flow; stages are counted from 1

@@ -1,6 +1,6 @@
 -- A flow at a moment, as far as it decides what goes on: octets are counted, not kept. Its places are its receive buffer,
 -- 0, its stages from 1, and its send buffer, the last.
-use Rattle.flow_gate.specs.declared.ids.BufferId.{BufferId}
+use Rattle.flow_rules.specs.declared.ids.BufferId.{BufferId}
 use Rattle.flow_rules.specs.Kinds.{Kind, all_empty}
 use Rattle.flow_rules.specs.Sources.{SourceAt}
 use Rattle.std.specs.Prelude.{Bool, List, None, Option, slice_get, suc, zero, ℕ, ◌&&◌, ◌==◌}

@@ -1,6 +1,6 @@
 -- Agendas: what goes on where a task is begun, ended or goes on as another.
 use Rattle.std.proofs.lemmas.Bool.{or_left, or_right}
-use Rattle.flow_gate.specs.declared.ids.FlowId.{FlowId}
+use Rattle.flow_rules.specs.declared.ids.FlowId.{FlowId}
 use Rattle.plain_laws.proofs.Streams.{flow_is, same_request}
 use Rattle.std.proofs.Common.{ap, arith, refl, ◌∙◌}
 use Rattle.std.proofs.lemmas.List.Sums.{sum_by-cons}

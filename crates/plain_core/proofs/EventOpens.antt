@@ -1,7 +1,7 @@
 -- What an event does to a core beside its notes, and that the core is good then.
 use Rattle.plain_laws.specs.Words.{Past, Alive, conn_lows}
 use Rattle.tape_laws.specs.Doomed.{is_swept}
-use Rattle.flow_gate.specs.declared.ids.FlowId.{FlowId}
+use Rattle.flow_rules.specs.declared.ids.FlowId.{FlowId}
 use Rattle.plain_laws.proofs.Streams.{not_both}
 use Rattle.plain_laws.specs.Settled.{Settled as IsSettledHistory}
 use Rattle.std.proofs.Common.{inl, inr, refl, subst, sym, ◌∙◌}

@@ -1,5 +1,5 @@
 -- Octets leave the write buffer.
-use Rattle.flow_gate.specs.declared.ids.FlowId.{FlowId}
+use Rattle.flow_rules.specs.declared.ids.FlowId.{FlowId}
 use Rattle.plain_laws.proofs.EventChanges.{room_high, room_keeps, room_lows}
 use Rattle.plain_laws.proofs.EventSteps.{room_none_step, room_step}
 use Rattle.plain_laws.proofs.Quiets.{rests_told}
@@ -24,7 +24,7 @@ use Rattle.plain_core.specs.Progress.{HasReason}
 use Rattle.plain_core.specs.Stands.{Rests}
 use Rattle.plain_core.specs.declared.flows.Flows.{Flows}
 use Rattle.plain_core.specs.declared.plain.PlainCore.{PlainCore}
-use Rattle.flow_gate.specs.declared.ids.BufferId.TheVariants as buffer
+use Rattle.flow_rules.specs.declared.ids.BufferId.TheVariants as buffer
 use Rattle.flow_notes.specs.declared.events.PlainEvent.TheVariants as plain
 use Rattle.flow_notes.specs.declared.notes.Note.TheVariants as note
 use Rattle.plain_core.specs.declared.agenda.Task.TheVariants as task

@@ -6,8 +6,8 @@ use Rattle.exchange_core.specs.Exchanges.{Exchanges, IsSound as AreSoundExchange
 use Rattle.exchange_core.specs.Plain.{plain_begun, plain_spec}
 use Rattle.flow_gate.specs.Board.{Board, FlowState, IsSound as IsSoundBoard, count as count_on, is_marked, is_open as is_there, pending_on, times, watchers_of}
 use Rattle.flow_gate.specs.Changes.{Begins as BeginsFlow, Knows, Watches}
-use Rattle.flow_gate.specs.declared.ids.BufferId.{BufferId}
-use Rattle.flow_gate.specs.declared.ids.FlowId.{FlowId}
+use Rattle.flow_rules.specs.declared.ids.BufferId.{BufferId}
+use Rattle.flow_rules.specs.declared.ids.FlowId.{FlowId}
 use Rattle.plain_laws.proofs.Counting.{one_if}
 use Rattle.plain_laws.proofs.Counts.{begin_count, begin_count_own, is_live_is}
 use Rattle.plain_laws.proofs.EventChanges.{begin_condemned, begin_framed_last, begin_keeps, begin_keeps_write, begin_live, begin_started}
@@ -32,7 +32,7 @@ use Rattle.plain_core.specs.Flows.{ConnectionIs, ExchangesAre, GatesAre, IsSettl
 use Rattle.plain_core.specs.declared.conn.Connection.{Connection}
 use Rattle.exchange_core.specs.declared.step.Piece.{Piece}
 use Rattle.plain_core.specs.declared.flows.Flows.{Flows}
-use Rattle.flow_gate.specs.declared.ids.BufferId.TheVariants as buffer
+use Rattle.flow_rules.specs.declared.ids.BufferId.TheVariants as buffer
 use Rattle.plain_core.proofs.FlowStreams.{stream_kept}
 use Rattle.plain_core.proofs.FlowHolds.{holding_begun}
 use Rattle.plain_core.proofs.FlowUnits.{keeps_piece}

@@ -6,7 +6,7 @@ use Rattle.exchange_core.specs.Plain.{plain_exchange}
 use Rattle.exchange_core.specs.declared.exchange.Exchange.{Exchange}
 use Rattle.flow_gate.specs.Board.{Board, IsSound as IsSoundBoard, is_known, is_marked, pending_on, watchers_of}
 use Rattle.flow_gate.specs.Changes.{Forgets, goes_with, without as without_flow}
-use Rattle.flow_gate.specs.declared.ids.FlowId.{FlowId}
+use Rattle.flow_rules.specs.declared.ids.FlowId.{FlowId}
 use Rattle.flow_rules.specs.declared.causes.Cause.{Cause}
 use Rattle.plain_laws.proofs.Counts.{doom_low, is_live_is}
 use Rattle.plain_laws.proofs.Keepings.{doom_high}
@@ -29,7 +29,7 @@ use Rattle.plain_core.specs.Carries.{Dooms, Lives}
 use Rattle.plain_core.specs.Flows.{ConnectionIs, ExchangesAre, FlowsStand, GatesAre, HoldingIs, IsSettled}
 use Rattle.plain_core.specs.declared.conn.Connection.{Connection}
 use Rattle.plain_core.specs.declared.flows.Flows.{Flows}
-use Rattle.flow_gate.specs.declared.ids.BufferId.TheVariants as buffer
+use Rattle.flow_rules.specs.declared.ids.BufferId.TheVariants as buffer
 use Rattle.flow_notes.specs.declared.notes.Note.TheVariants as note
 use Rattle.plain_core.proofs.FlowStreams.{last_kept, stream_kept}
 use Rattle.plain_core.proofs.FlowMeasure.{ahead_changes, fewer}

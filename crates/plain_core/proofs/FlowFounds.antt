@@ -11,7 +11,7 @@ use Rattle.tape_laws.specs.Flows.{request}
 use Rattle.tape_laws.specs.declared.PlainLimits.{PlainLimits}
 use Rattle.plain_core.specs.Flows.{AreLimits, ConnectionIs, ExchangesAre, FlowsStand, GatesAre}
 use Rattle.plain_core.specs.declared.conn.Connection.{Connection}
-use Rattle.flow_gate.specs.declared.ids.BufferId.TheVariants as buffer
+use Rattle.flow_rules.specs.declared.ids.BufferId.TheVariants as buffer
 use Rattle.flow_gate.specs.Changes.{IsEmpty}
 use Rattle.plain_core.specs.Ready.{IsNewConnection}
 

@@ -1,7 +1,7 @@
 -- What the gates stand for where no stream begins or is doomed.
 use Rattle.flow_gate.specs.Board.{Board, IsSound as IsSoundBoard, count as count_on, is_known, is_marked, is_open as is_there, pending_on, watchers_of}
 use Rattle.flow_gate.specs.Changes.{Same}
-use Rattle.flow_gate.specs.declared.ids.FlowId.{FlowId}
+use Rattle.flow_rules.specs.declared.ids.FlowId.{FlowId}
 use Rattle.plain_laws.proofs.Counts.{is_live_is}
 use Rattle.std.proofs.Common.{refl, sym, ◌∙◌}
 use Rattle.std.specs.Prelude.{[], ℕ, ◌≡◌}
@@ -13,7 +13,7 @@ use Rattle.tape_laws.specs.Plain.{plain_setup}
 use Rattle.tape_laws.specs.Sources.{is_live}
 use Rattle.tape_laws.specs.declared.PlainLimits.{PlainLimits}
 use Rattle.plain_core.specs.Flows.{GatesAre}
-use Rattle.flow_gate.specs.declared.ids.BufferId.TheVariants as buffer
+use Rattle.flow_rules.specs.declared.ids.BufferId.TheVariants as buffer
 
 -- the flows and buffers that the gates know are the same, and who watches
 pub record KeepsNames (old new : Board) : Type 0 where

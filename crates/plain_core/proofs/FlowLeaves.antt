@@ -1,7 +1,7 @@
 -- What the flows are after octets left the write buffer.
 use Rattle.flow_gate.specs.Board.{Board, IsSound as IsSoundBoard}
 use Rattle.flow_gate.specs.Changes.{Drains}
-use Rattle.flow_gate.specs.declared.ids.FlowId.{FlowId}
+use Rattle.flow_rules.specs.declared.ids.FlowId.{FlowId}
 use Rattle.plain_laws.proofs.EventChanges.{room_high, room_keeps}
 use Rattle.plain_laws.proofs.Keepings.{turn_keeps_write}
 use Rattle.plain_laws.proofs.Outs.{out_lows}
@@ -20,7 +20,7 @@ use Rattle.plain_core.specs.Carries.{Leaves}
 use Rattle.plain_core.specs.Flows.{ConnectionIs, GatesAre}
 use Rattle.plain_core.specs.declared.conn.Connection.{Connection}
 use Rattle.plain_core.specs.declared.flows.Flows.{Flows}
-use Rattle.flow_gate.specs.declared.ids.BufferId.TheVariants as buffer
+use Rattle.flow_rules.specs.declared.ids.BufferId.TheVariants as buffer
 use Rattle.flow_notes.specs.declared.events.PlainEvent.TheVariants as plain
 use Rattle.flow_notes.specs.declared.notes.Note.TheVariants as note
 use Rattle.plain_core.proofs.FlowStreams.{same_exchanges}

@@ -1,15 +1,15 @@
 -- What a frame marks in the gates.
 use Rattle.flow_gate.specs.Board.{Board, pending_on, watchers_of}
 use Rattle.flow_gate.specs.Changes.{Drains, Rises, Same, Tells as TellsFlow}
-use Rattle.flow_gate.specs.declared.ids.BufferId.{BufferId}
-use Rattle.flow_gate.specs.declared.ids.FlowId.{FlowId}
+use Rattle.flow_rules.specs.declared.ids.BufferId.{BufferId}
+use Rattle.flow_rules.specs.declared.ids.FlowId.{FlowId}
 use Rattle.plain_laws.proofs.Streams.{same_number}
 use Rattle.std.proofs.Common.{ap, refl, sym, ◌∙◌}
 use Rattle.std.specs.Prelude.{Bool, IsNone, List, None, Option, Some, [], false, if◌then◌else◌, not, option_to_list, true, ◌&&◌, ◌++◌, ◌==◌, ◌∷◌, ◌≡◌, ◌↔◌}
 use Rattle.tape_laws.specs.Flows.{same_flow}
 use Rattle.wm_buffer.specs.declared.watermark.Crossed.{Crossed}
 use Rattle.wm_buffer.specs.declared.watermark.Crossed.TheVariants as crossed
-use Rattle.flow_gate.specs.declared.ids.BufferId.TheVariants as buffer
+use Rattle.flow_rules.specs.declared.ids.BufferId.TheVariants as buffer
 use Rattle.plain_core.specs.Crossings.{DrainsAndTells, is_high, is_low}
 
 own_flow : (f : FlowId) → same_flow f f ≡ true

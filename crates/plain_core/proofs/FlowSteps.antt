@@ -36,7 +36,7 @@ use Rattle.plain_core.specs.Carries.{MovesAt, StaysAt, Steps}
 use Rattle.plain_core.specs.Flows.{ExchangesAre, GatesAre, HoldingIs, IsSettled, Settled, StreamIs}
 use Rattle.plain_core.specs.UnitsOf.{is_emptied, piece_at}
 use Rattle.plain_core.specs.declared.flows.Flows.{Flows}
-use Rattle.flow_gate.specs.declared.ids.BufferId.TheVariants as buffer
+use Rattle.flow_rules.specs.declared.ids.BufferId.TheVariants as buffer
 use Rattle.plain_core.specs.declared.flows.Outcome.TheVariants as outcome
 use Rattle.plain_core.proofs.FlowStreams.{changed_exchanges, changed_plain}
 use Rattle.plain_core.proofs.FlowGates.{CountsAre, KeepsNames, gates_from}

@@ -3,7 +3,7 @@ use Rattle.plain_laws.specs.Words.{Past}
 use Rattle.tape_laws.specs.Doomed.{is_swept}
 use Rattle.flow_gate.specs.Board.{Board, IsSound as IsSoundBoard, pending_on}
 use Rattle.flow_gate.specs.Changes.{Tells as TellsFlows}
-use Rattle.flow_gate.specs.declared.ids.FlowId.{FlowId}
+use Rattle.flow_rules.specs.declared.ids.FlowId.{FlowId}
 use Rattle.std.proofs.Common.{arith, inl, inr, sym, ◌∙◌}
 use Rattle.std.specs.Prelude.{List, false, take, true, ℕ, ◌+◌, ◌≡◌}
 use Rattle.tape_laws.specs.Flows.{request}
@@ -16,7 +16,7 @@ use Rattle.plain_core.specs.Carries.{Holds, Tells, Wakes}
 use Rattle.plain_core.specs.Flows.{ConnectionIs, FlowsStand, GatesAre, Settled}
 use Rattle.plain_core.specs.declared.conn.Connection.{Connection}
 use Rattle.plain_core.specs.declared.flows.Flows.{Flows}
-use Rattle.flow_gate.specs.declared.ids.BufferId.TheVariants as buffer
+use Rattle.flow_rules.specs.declared.ids.BufferId.TheVariants as buffer
 use Rattle.plain_core.proofs.FlowUnits.{keeps_piece}
 
 told_gates : (limits : PlainLimits) (fs : List FlowId) (old new : Board) (h : Past) → GatesAre limits old h → TellsFlows (buffer.Write 0) fs old new → IsSoundBoard new

@@ -4,7 +4,7 @@ use Rattle.exchange_core.specs.Exchanges.{exchange_at, flow_at}
 use Rattle.exchange_core.specs.Units.{next_unit as next_of}
 use Rattle.exchange_core.specs.declared.exchange.Exchange.{Exchange}
 use Rattle.flow_rules.specs.declared.unit.Unit.{Unit as NextUnit}
-use Rattle.flow_gate.specs.declared.ids.FlowId.{FlowId}
+use Rattle.flow_rules.specs.declared.ids.FlowId.{FlowId}
 use Rattle.plain_laws.proofs.Streams.{own_or_other, same_number}
 use Rattle.plain_laws.specs.Keeping.{KeepsStream}
 use Rattle.plain_laws.specs.Next.{state_by, unit_of}

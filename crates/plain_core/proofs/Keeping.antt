@@ -1,6 +1,6 @@
 -- Small steps of a core: what is kept where flows and agenda alone change.
-use Rattle.flow_gate.specs.declared.ids.BufferId.{BufferId}
-use Rattle.flow_gate.specs.declared.ids.FlowId.{FlowId}
+use Rattle.flow_rules.specs.declared.ids.BufferId.{BufferId}
+use Rattle.flow_rules.specs.declared.ids.FlowId.{FlowId}
 use Rattle.flow_rules.specs.Pausing.{CanPause}
 use Rattle.flow_notes.specs.declared.notes.Note.{Note}
 use Rattle.plain_laws.specs.Settled.{Settled as IsSettledHistory}

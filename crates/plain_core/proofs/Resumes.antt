@@ -1,6 +1,6 @@
 -- The resumes of flows that are told that the write buffer drained.
 use Rattle.flow_gate.specs.Board.{pending_on}
-use Rattle.flow_gate.specs.declared.ids.FlowId.{FlowId}
+use Rattle.flow_rules.specs.declared.ids.FlowId.{FlowId}
 use Rattle.flow_notes.specs.declared.notes.Note.{Note}
 use Rattle.std.proofs.Common.{ap, append_assoc, arith, sym, ◌∙◌}
 use Rattle.std.proofs.Math.Seq.{take-append_seam}
@@ -13,7 +13,7 @@ use Rattle.plain_core.specs.Noting.{resumes_of}
 use Rattle.plain_core.specs.Telling.{IsToldNext, TellsUpTo}
 use Rattle.plain_core.specs.declared.flows.Flows.{Flows}
 use Rattle.plain_core.specs.declared.telling.Told.{Told}
-use Rattle.flow_gate.specs.declared.ids.BufferId.TheVariants as buffer
+use Rattle.flow_rules.specs.declared.ids.BufferId.TheVariants as buffer
 
 pub all_more : (P : FlowId → Type 0) (fs : List FlowId) (f : FlowId) → AllByRecursion P fs → P f → AllByRecursion P (fs ++ f ∷ [])
 all_more P [] f a p = (p, tt)

@@ -1,6 +1,6 @@
 -- The steps of rounds and drains: the frame that goes next goes, or there is none.
 use Rattle.flow_gate.specs.Board.{watchers_of}
-use Rattle.flow_gate.specs.declared.ids.FlowId.{FlowId}
+use Rattle.flow_rules.specs.declared.ids.FlowId.{FlowId}
 use Rattle.flow_rules.specs.Pausing.{CanPause}
 use Rattle.flow_notes.specs.declared.notes.Note.{Note}
 use Rattle.plain_laws.proofs.Changes.{frame_keeps_lists, frame_paired}
@@ -32,7 +32,7 @@ use Rattle.plain_core.specs.declared.flows.Flows.{Flows}
 use Rattle.plain_core.specs.declared.flows.Framed.{Framed}
 use Rattle.plain_core.specs.declared.flows.NextFrame.{NextFrame}
 use Rattle.plain_core.specs.declared.plain.PlainCore.{PlainCore}
-use Rattle.flow_gate.specs.declared.ids.BufferId.TheVariants as buffer
+use Rattle.flow_rules.specs.declared.ids.BufferId.TheVariants as buffer
 use Rattle.flow_notes.specs.declared.notes.Note.TheVariants as note
 use Rattle.plain_core.specs.declared.agenda.Task.TheVariants as task
 use Rattle.plain_core.specs.Words.{HasFlows, OnTop, Written}

@@ -1,6 +1,6 @@
 -- The steps of a run: its flow moves, or may not, or isn't live.
 use Rattle.flow_gate.specs.Board.{watchers_of}
-use Rattle.flow_gate.specs.declared.ids.FlowId.{FlowId}
+use Rattle.flow_rules.specs.declared.ids.FlowId.{FlowId}
 use Rattle.flow_rules.specs.Pausing.{CanPause}
 use Rattle.flow_notes.specs.declared.notes.Note.{Note}
 use Rattle.plain_laws.proofs.Changes.{move_keeps_lists, move_paired, move_recv}
@@ -39,7 +39,7 @@ use Rattle.plain_core.specs.declared.flows.Moved.{Moved}
 use Rattle.plain_core.specs.declared.flows.NextFrame.{NextFrame}
 use Rattle.plain_core.specs.declared.flows.Outcome.{Outcome}
 use Rattle.plain_core.specs.declared.plain.PlainCore.{PlainCore}
-use Rattle.flow_gate.specs.declared.ids.BufferId.TheVariants as buffer
+use Rattle.flow_rules.specs.declared.ids.BufferId.TheVariants as buffer
 use Rattle.flow_notes.specs.declared.notes.Note.TheVariants as note
 use Rattle.plain_core.specs.declared.agenda.Task.TheVariants as task
 use Rattle.plain_core.specs.declared.flows.Outcome.TheVariants as outcome

@@ -1,6 +1,6 @@
 -- A telling: watchers are told until one goes on, which is run, or all were told.
 use Rattle.flow_gate.specs.Board.{pending_on}
-use Rattle.flow_gate.specs.declared.ids.FlowId.{FlowId}
+use Rattle.flow_rules.specs.declared.ids.FlowId.{FlowId}
 use Rattle.flow_notes.specs.declared.notes.Note.{Note}
 use Rattle.plain_laws.specs.Regular.{IsLiveFlow}
 use Rattle.std.proofs.Common.{ap, arith, refl, sym, ◌∙◌}
@@ -28,7 +28,7 @@ use Rattle.plain_core.specs.declared.flows.Flows.{Flows}
 use Rattle.plain_core.specs.declared.agenda.Task.{Task}
 use Rattle.plain_core.specs.declared.telling.Told.{Told}
 use Rattle.plain_core.specs.declared.plain.PlainCore.{PlainCore}
-use Rattle.flow_gate.specs.declared.ids.BufferId.TheVariants as buffer
+use Rattle.flow_rules.specs.declared.ids.BufferId.TheVariants as buffer
 use Rattle.plain_core.specs.declared.agenda.Task.TheVariants as task
 use Rattle.plain_core.specs.Words.{HasFlows, OnTop, Written}
 

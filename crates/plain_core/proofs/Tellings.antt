@@ -2,7 +2,7 @@
 use Rattle.plain_laws.specs.Words.{Past, Alive, conn_high, conn_lows, conn_out, last_out}
 use Rattle.tape_laws.specs.Doomed.{is_swept}
 use Rattle.flow_gate.specs.Board.{times}
-use Rattle.flow_gate.specs.declared.ids.FlowId.{FlowId}
+use Rattle.flow_rules.specs.declared.ids.FlowId.{FlowId}
 use Rattle.plain_laws.proofs.Counting.{one_if}
 use Rattle.plain_laws.proofs.Counts.{tell_count}
 use Rattle.plain_laws.proofs.Keepings.{lists_more, resume_keeps, resume_keeps_lists, stream_more, write_resume_high, write_resume_out}
@@ -22,7 +22,7 @@ use Rattle.tape_laws.specs.Pauses.{count}
 use Rattle.tape_laws.specs.Plain.{paired_with}
 use Rattle.tape_laws.specs.declared.PlainLimits.{PlainLimits}
 use Rattle.plain_core.specs.Noting.{resumes_of}
-use Rattle.flow_gate.specs.declared.ids.BufferId.TheVariants as buffer
+use Rattle.flow_rules.specs.declared.ids.BufferId.TheVariants as buffer
 use Rattle.flow_notes.specs.declared.notes.Note.TheVariants as note
 
 -- a history with one more flow told

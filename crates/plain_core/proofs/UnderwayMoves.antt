@@ -17,7 +17,7 @@ use Rattle.std.specs.BTreeMap.{get}
 use Rattle.std.specs.List.{AllByRecursion, list_any}
 use Rattle.std.specs.Ordering.{nat_cmp}
 use Rattle.std.specs.Prelude.{Bool, List, [], drop, false, length, nat_lt, true, ℕ, ◌&&◌, ◌+◌, ◌==◌, ◌||◌, ◌∷◌, ◌≡◌, ◌≤◌, ◌⊎◌}
-use Rattle.flow_gate.specs.declared.ids.FlowId.{FlowId}
+use Rattle.flow_rules.specs.declared.ids.FlowId.{FlowId}
 use Rattle.tape_laws.specs.Dispatches.{before_dispatch, has, is_some_of, live}
 use Rattle.flow_rules.specs.declared.unit.Unit.TheVariants.{Body as BodyUnit}
 use Rattle.tape_laws.specs.Flows.{request}

@@ -1,5 +1,5 @@
 -- What is under way while flows are told that the write buffer drained.
-use Rattle.flow_gate.specs.declared.ids.FlowId.{FlowId}
+use Rattle.flow_rules.specs.declared.ids.FlowId.{FlowId}
 use Rattle.plain_laws.proofs.Counting.{one_if}
 use Rattle.plain_laws.proofs.Counts.{tell_count}
 use Rattle.plain_laws.proofs.Keepings.{resume_keeps, write_resume_high, write_resume_lows}
@@ -22,7 +22,7 @@ use Rattle.plain_core.proofs.UnderwayMoves.{LeavesWork, moves_back, same_length,
 use Rattle.plain_core.specs.Agenda.{Agenda, is_rounded, with_run}
 use Rattle.plain_core.specs.Carries.{IsStill, may_move}
 use Rattle.plain_core.specs.Progress.{Pairs, Underway}
-use Rattle.flow_gate.specs.declared.ids.BufferId.TheVariants as buffer
+use Rattle.flow_rules.specs.declared.ids.BufferId.TheVariants as buffer
 use Rattle.flow_notes.specs.declared.notes.Note.TheVariants as note
 use Rattle.plain_core.specs.declared.agenda.Task.TheVariants as task
 use Rattle.plain_core.specs.Words.{OnTop}

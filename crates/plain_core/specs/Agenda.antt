@@ -1,5 +1,5 @@
 -- What is under way in a dispatch, with what was begun last in front.
-use Rattle.flow_gate.specs.declared.ids.FlowId.{FlowId}
+use Rattle.flow_rules.specs.declared.ids.FlowId.{FlowId}
 use Rattle.std.specs.List.{list_any}
 use Rattle.std.specs.Prelude.{Bool, List, None, Option, Some, [], drop, false, if◌then◌else◌, true, ℕ, ◌==◌, ◌∷◌}
 use Rattle.tape_laws.specs.Flows.{request, same_flow}

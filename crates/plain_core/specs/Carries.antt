@@ -24,7 +24,7 @@ use Rattle.plain_core.specs.declared.flows.Moved.{Moved}
 use Rattle.plain_core.specs.declared.flows.NextFrame.{NextFrame}
 use Rattle.plain_core.specs.declared.flows.Outcome.{Outcome}
 use Rattle.exchange_core.specs.declared.step.Received.TheVariants as received
-use Rattle.flow_gate.specs.declared.ids.BufferId.TheVariants as buffer
+use Rattle.flow_rules.specs.declared.ids.BufferId.TheVariants as buffer
 use Rattle.flow_notes.specs.declared.events.Event.TheVariants as event
 use Rattle.flow_notes.specs.declared.events.PlainEvent.TheVariants as plain
 use Rattle.flow_notes.specs.declared.notes.Note.TheVariants as note

@@ -1,12 +1,12 @@
 -- What the gates are told of a frame: the write buffer's rise, and the send buffer's low, of which its flow is told at once.
 use Rattle.flow_gate.specs.Board.{Board}
 use Rattle.flow_gate.specs.Changes.{Drains, Rises, Tells}
-use Rattle.flow_gate.specs.declared.ids.FlowId.{FlowId}
+use Rattle.flow_rules.specs.declared.ids.FlowId.{FlowId}
 use Rattle.std.specs.Prelude.{Bool, [], false, true, ◌∷◌, ◌≡◌}
 use Rattle.wm_buffer.specs.declared.watermark.Crossed.{Crossed}
 use Rattle.wm_buffer.specs.declared.buffer.Shifted.{Shifted}
 use Rattle.plain_core.specs.declared.flows.Framed.{Framed}
-use Rattle.flow_gate.specs.declared.ids.BufferId.TheVariants as buffer
+use Rattle.flow_rules.specs.declared.ids.BufferId.TheVariants as buffer
 use Rattle.wm_buffer.specs.declared.watermark.Crossed.TheVariants as crossed
 
 abbrev pub is_high : Crossed → Bool

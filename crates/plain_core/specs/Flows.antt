@@ -3,7 +3,7 @@ use Rattle.exchange_core.specs.declared.exchange.Exchange.{Exchange}
 use Rattle.exchange_core.specs.Exchanges.{Exchanges, IsSound as AreSoundExchanges, exchange_at}
 use Rattle.exchange_core.specs.Plain.{Plain, plain_exchange}
 use Rattle.flow_gate.specs.Board.{Board, IsSound as IsSoundBoard, count as count_on, is_known, is_marked, is_open as is_there, pending_on, watchers_of}
-use Rattle.flow_gate.specs.declared.ids.FlowId.{FlowId}
+use Rattle.flow_rules.specs.declared.ids.FlowId.{FlowId}
 use Rattle.plain_laws.specs.Regular.{AtMost}
 use Rattle.plain_laws.specs.Settled.{Settled as IsSettledHistory}
 use Rattle.proxy_config.specs.Ranges.{IsBetween, most_octets}
@@ -29,7 +29,7 @@ use Rattle.tape_laws.specs.declared.PlainLimits.{PlainLimits}
 use Rattle.plain_core.specs.declared.conn.Connection.{Connection}
 use Rattle.exchange_core.specs.declared.step.Piece.{Piece}
 use Rattle.plain_core.specs.declared.flows.Flows.{Flows}
-use Rattle.flow_gate.specs.declared.ids.BufferId.TheVariants as buffer
+use Rattle.flow_rules.specs.declared.ids.BufferId.TheVariants as buffer
 
 -- the ranges of a session's limits
 pub record AreLimits (limits : PlainLimits) : Type 0 where

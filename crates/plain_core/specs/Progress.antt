@@ -17,7 +17,7 @@ use Rattle.tape_laws.specs.declared.PlainLimits.{PlainLimits}
 use Rattle.plain_core.specs.Agenda.{Agenda, is_rounded, is_run_of, is_telling}
 use Rattle.plain_core.specs.Carries.{may_move}
 use Rattle.plain_core.specs.declared.agenda.Task.{Task}
-use Rattle.flow_gate.specs.declared.ids.BufferId.TheVariants as buffer
+use Rattle.flow_rules.specs.declared.ids.BufferId.TheVariants as buffer
 use Rattle.plain_core.specs.declared.agenda.Task.TheVariants as task
 
 -- which stream the end of a stream dooms

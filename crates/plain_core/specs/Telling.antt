@@ -1,6 +1,6 @@
 -- Which flows are told that the write buffer drained: those that are to be, up to the first that goes on.
 use Rattle.flow_gate.specs.Board.{pending_on}
-use Rattle.flow_gate.specs.declared.ids.FlowId.{FlowId}
+use Rattle.flow_rules.specs.declared.ids.FlowId.{FlowId}
 use Rattle.flow_notes.specs.declared.notes.Note.{Note}
 use Rattle.std.specs.List.{AllByRecursion}
 use Rattle.std.specs.Prelude.{List, [], IfNone, false, length, option_to_list, ◌++◌, ◌≡◌}
@@ -8,7 +8,7 @@ use Rattle.plain_core.specs.Carries.{Wakes}
 use Rattle.plain_core.specs.Noting.{resumes_of}
 use Rattle.plain_core.specs.declared.flows.Flows.{Flows}
 use Rattle.plain_core.specs.declared.telling.Told.{Told}
-use Rattle.flow_gate.specs.declared.ids.BufferId.TheVariants as buffer
+use Rattle.flow_rules.specs.declared.ids.BufferId.TheVariants as buffer
 
 -- how many are told, and which of them goes on
 pub record IsToldNext (flows : Flows) (told : Told) : Type 0 where

@@ -1,5 +1,5 @@
 -- The count of a flow, by what it is made of.
-use Rattle.flow_gate.specs.declared.ids.FlowId.{FlowId}
+use Rattle.flow_rules.specs.declared.ids.FlowId.{FlowId}
 use Rattle.std.proofs.Common.{arith, refl}
 use Rattle.std.specs.Prelude.{Bool, List, [], count_by, false, if◌then◌else◌, true, ℕ, ◌+◌, ◌∷◌, ◌≡◌}
 use Rattle.plain_laws.specs.Words.{Past, conn_high, conn_lows, disabled_at, lows_at, lows_of, send_high}

@@ -2,7 +2,7 @@
 use Rattle.plain_laws.proofs.Balances.{tally_at}
 use Rattle.plain_laws.proofs.Streams.{swapped}
 use Rattle.std.proofs.Math.Bool.{and-false}
-use Rattle.flow_gate.specs.declared.ids.FlowId.{FlowId}
+use Rattle.flow_rules.specs.declared.ids.FlowId.{FlowId}
 use Rattle.flow_rules.specs.declared.causes.Cause.{Cause}
 use Rattle.plain_laws.proofs.Changes.{frame_paused, frame_resumed, move_paused, move_resumed}
 use Rattle.plain_laws.proofs.Counting.{disabled_is, lows_are, one_if, told_of, write_flag, write_left}
@@ -24,7 +24,7 @@ use Rattle.tape_laws.specs.Plain.{plain_setup}
 use Rattle.tape_laws.specs.Sources.{is_live}
 use Rattle.tape_laws.specs.declared.PlainLimits.{PlainLimits}
 use Rattle.wm_buffer.specs.Watermark.{above_after}
-use Rattle.flow_gate.specs.declared.ids.BufferId.TheVariants as buffer
+use Rattle.flow_rules.specs.declared.ids.BufferId.TheVariants as buffer
 use Rattle.flow_notes.specs.declared.notes.Note.TheVariants as note
 
 -- between steps the pauses of a live stream are its resumes, its sources above and its lows

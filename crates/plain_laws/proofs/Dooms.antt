@@ -3,7 +3,7 @@ use Rattle.plain_laws.proofs.Leaving.{flow_kept}
 use Rattle.std.proofs.lemmas.Bool.{or_left, or_right}
 use Rattle.plain_laws.specs.Words.{Past, Alive, conn_lows, conn_out, end_out, lows_of, send_high, turn_of}
 use Rattle.tape_laws.specs.Doomed.{is_swept}
-use Rattle.flow_gate.specs.declared.ids.FlowId.{FlowId}
+use Rattle.flow_rules.specs.declared.ids.FlowId.{FlowId}
 use Rattle.flow_rules.specs.declared.causes.Cause.{Cause}
 use Rattle.plain_laws.proofs.Extending.{MayAdd, free_meets, nothing_owed, one_owed, regular_more}
 use Rattle.plain_laws.proofs.Leaving.{Leaves, only_other, room_kept, unborn_kept}

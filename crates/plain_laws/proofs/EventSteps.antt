@@ -21,7 +21,7 @@ use Rattle.tape_laws.specs.Dispatches.{events_back, has, live, turns}
 use Rattle.tape_laws.specs.Following.{may_follow}
 use Rattle.tape_laws.specs.History.{NoMark, Noted, Step, onto}
 use Rattle.tape_laws.specs.declared.PlainLimits.{PlainLimits}
-use Rattle.flow_gate.specs.declared.ids.BufferId.TheVariants as buffer
+use Rattle.flow_rules.specs.declared.ids.BufferId.TheVariants as buffer
 use Rattle.flow_notes.specs.declared.events.PlainEvent.TheVariants as plain
 use Rattle.flow_notes.specs.declared.notes.Note.TheVariants as note
 

@@ -1,6 +1,6 @@
 -- One more note: what it needs of each law, and that the history with it is regular.
 use Rattle.plain_laws.proofs.Balances.{counted_at_step}
-use Rattle.flow_gate.specs.declared.ids.FlowId.{FlowId}
+use Rattle.flow_rules.specs.declared.ids.FlowId.{FlowId}
 use Rattle.flow_notes.specs.declared.notes.Note.{Note}
 use Rattle.plain_laws.proofs.Streams.{each_live}
 use Rattle.plain_laws.specs.Owing.{Owing}

@@ -1,5 +1,5 @@
 -- The flag of a buffer, step by step.
-use Rattle.flow_gate.specs.declared.ids.FlowId.{FlowId}
+use Rattle.flow_rules.specs.declared.ids.FlowId.{FlowId}
 use Rattle.std.proofs.Common.{arith, ◌∙◌}
 use Rattle.std.proofs.lemmas.Bool.Decides.{nat_tests}
 use Rattle.std.specs.Prelude.{Bool, [], false, true, ℕ, ◌<◌, ◌∷◌, ◌≡◌, ◌≤◌}
@@ -10,7 +10,7 @@ use Rattle.tape_laws.specs.Watermark.{above}
 use Rattle.tape_laws.specs.World.{len, place}
 use Rattle.tape_laws.specs.declared.PlainLimits.{PlainLimits}
 use Rattle.wm_buffer.specs.Watermark.{above_after}
-use Rattle.flow_gate.specs.declared.ids.BufferId.TheVariants as buffer
+use Rattle.flow_rules.specs.declared.ids.BufferId.TheVariants as buffer
 
 -- asked again at the same length, the flag stays
 above_again : (l : ℕ) (w : Bool) (n : ℕ) → above_after l (above_after l w n) n ≡ above_after l w n

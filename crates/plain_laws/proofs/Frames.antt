@@ -4,7 +4,7 @@ use Rattle.std.proofs.lemmas.Bool.{and_parts as both_true}
 use Rattle.h2_frames.specs.Head.{data_head}
 use Rattle.plain_laws.specs.Words.{Past, Alive, conn_high, conn_lows, conn_out, end_out, frame_of, lows_of, next_out, recv_at, send_at, send_high}
 use Rattle.tape_laws.specs.Doomed.{is_swept}
-use Rattle.flow_gate.specs.declared.ids.FlowId.{FlowId}
+use Rattle.flow_rules.specs.declared.ids.FlowId.{FlowId}
 use Rattle.plain_laws.proofs.Extending.{MayAdd, free_meets, nothing_owed, regular_more, under_test}
 use Rattle.plain_laws.proofs.Flags.{no_rise, send_now}
 use Rattle.plain_laws.proofs.Greatest.{dropped}
@@ -29,7 +29,7 @@ use Rattle.tape_laws.specs.Plain.{paired_with, plain_ended, plain_setup}
 use Rattle.tape_laws.specs.PlainSession.{plain_must_end}
 use Rattle.tape_laws.specs.Sources.{watchers}
 use Rattle.tape_laws.specs.declared.PlainLimits.{PlainLimits}
-use Rattle.flow_gate.specs.declared.ids.BufferId.TheVariants as buffer
+use Rattle.flow_rules.specs.declared.ids.BufferId.TheVariants as buffer
 use Rattle.flow_notes.specs.declared.notes.Note.TheVariants as note
 use Rattle.plain_laws.proofs.Streams.{number_is as zero_of}
 

@@ -1,5 +1,5 @@
 -- The greatest length of a buffer, step by step.
-use Rattle.flow_gate.specs.declared.ids.BufferId.{BufferId}
+use Rattle.flow_rules.specs.declared.ids.BufferId.{BufferId}
 use Rattle.std.proofs.Common.{ap, arith, length-drop, ◌∙◌}
 use Rattle.std.specs.Prelude.{List, [], drop, length, ℕ, ◌-◌, ◌∷◌, ◌≡◌, ◌≤◌}
 use Rattle.plain_laws.specs.Words.{Past}

@@ -1,6 +1,6 @@
 -- What single notes, and pauses, keep.
-use Rattle.flow_gate.specs.declared.ids.BufferId.{BufferId}
-use Rattle.flow_gate.specs.declared.ids.FlowId.{FlowId}
+use Rattle.flow_rules.specs.declared.ids.BufferId.{BufferId}
+use Rattle.flow_rules.specs.declared.ids.FlowId.{FlowId}
 use Rattle.flow_notes.specs.declared.events.PlainEvent.{PlainEvent}
 use Rattle.flow_rules.specs.declared.causes.Cause.{Cause}
 use Rattle.plain_laws.proofs.Arrivals.{arrive_leaves}
@@ -25,7 +25,7 @@ use Rattle.tape_laws.specs.History.{NoMark, Noted, Step, onto}
 use Rattle.tape_laws.specs.Pauses.{Owed}
 use Rattle.tape_laws.specs.Plain.{plain_ended}
 use Rattle.tape_laws.specs.declared.PlainLimits.{PlainLimits}
-use Rattle.flow_gate.specs.declared.ids.BufferId.TheVariants as buffer
+use Rattle.flow_rules.specs.declared.ids.BufferId.TheVariants as buffer
 use Rattle.flow_notes.specs.declared.notes.Note.TheVariants as note
 
 pub keeps_stream : (limits : PlainLimits) (x : ℕ) (step : Step NoMark) (h : Past) → Leaves limits x step h → plain_ended x (step ∷ h) ≡ plain_ended x h

@@ -17,9 +17,9 @@ use Rattle.tape_laws.specs.Plain.{paired_with, plain_body, plain_ended}
 use Rattle.tape_laws.specs.PlainSession.{plain_must_end}
 use Rattle.tape_laws.specs.World.{received}
 use Rattle.tape_laws.specs.declared.PlainLimits.{PlainLimits}
-use Rattle.flow_gate.specs.declared.ids.BufferId.TheVariants as buffer
+use Rattle.flow_rules.specs.declared.ids.BufferId.TheVariants as buffer
 use Rattle.std.specs.List.{AllByRecursion}
-use Rattle.flow_gate.specs.declared.ids.FlowId.{FlowId}
+use Rattle.flow_rules.specs.declared.ids.FlowId.{FlowId}
 
 pub record Leaves (limits : PlainLimits) (x : ℕ) (step : Step NoMark) (h : Past) : Type 0 where
   pub recv : recv_at limits x (step ∷ h) ≡ recv_at limits x h

@@ -1,7 +1,7 @@
 -- Octets leave the write buffer.
 use Rattle.plain_laws.specs.Words.{Past, conn_high, conn_lows, conn_out, lows_of}
 use Rattle.tape_laws.specs.Doomed.{is_swept}
-use Rattle.flow_gate.specs.declared.ids.FlowId.{FlowId}
+use Rattle.flow_rules.specs.declared.ids.FlowId.{FlowId}
 use Rattle.plain_laws.proofs.Extending.{MayAdd, one_owed, regular_more, under_test}
 use Rattle.plain_laws.proofs.Leaving.{Leaves, flow_kept, once_kept, unborn_kept}
 use Rattle.plain_laws.proofs.Tellings.{all_requests}

@@ -1,6 +1,6 @@
 -- When a dispatch is whole, and what follows from that.
 use Rattle.plain_laws.proofs.Balances.{count_is}
-use Rattle.flow_gate.specs.declared.ids.FlowId.{FlowId}
+use Rattle.flow_rules.specs.declared.ids.FlowId.{FlowId}
 use Rattle.plain_laws.proofs.Counting.{lows_are, send_left, told_of, write_left}
 use Rattle.plain_laws.proofs.Extending.{}
 use Rattle.plain_laws.proofs.Moves.{first_place}
@@ -28,7 +28,7 @@ use Rattle.tape_laws.specs.Sources.{disabled}
 use Rattle.tape_laws.specs.Watermark.{above}
 use Rattle.tape_laws.specs.World.{received}
 use Rattle.tape_laws.specs.declared.PlainLimits.{PlainLimits}
-use Rattle.flow_gate.specs.declared.ids.BufferId.TheVariants as buffer
+use Rattle.flow_rules.specs.declared.ids.BufferId.TheVariants as buffer
 
 release_none : (c q n : ℕ) → (c ≡ 0 → n ≡ 0) → (if c == 0 then min q n else 0) ≡ 0
 release_none c q n f = pick (c == 0) refl

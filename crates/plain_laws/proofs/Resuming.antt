@@ -2,8 +2,8 @@
 use Rattle.plain_laws.proofs.Leaving.{flow_kept}
 use Rattle.plain_laws.specs.Words.{Past, Alive, conn_lows, conn_out, lows_of}
 use Rattle.tape_laws.specs.Doomed.{is_swept}
-use Rattle.flow_gate.specs.declared.ids.BufferId.{BufferId}
-use Rattle.flow_gate.specs.declared.ids.FlowId.{FlowId}
+use Rattle.flow_rules.specs.declared.ids.BufferId.{BufferId}
+use Rattle.flow_rules.specs.declared.ids.FlowId.{FlowId}
 use Rattle.plain_laws.proofs.Extending.{MayAdd, free_meets, nothing_owed, regular_more}
 use Rattle.plain_laws.proofs.Leaving.{Leaves, room_kept, send_low_kept, unborn_kept}
 use Rattle.plain_laws.proofs.Streams.{apart_from, own_or_other, same_number}
@@ -20,7 +20,7 @@ use Rattle.tape_laws.specs.History.{NoMark, Noted, Step}
 use Rattle.tape_laws.specs.Pauses.{Heads, is_silent, pending_lows, resumes}
 use Rattle.tape_laws.specs.Plain.{plain_setup}
 use Rattle.tape_laws.specs.declared.PlainLimits.{PlainLimits}
-use Rattle.flow_gate.specs.declared.ids.BufferId.TheVariants as buffer
+use Rattle.flow_rules.specs.declared.ids.BufferId.TheVariants as buffer
 use Rattle.flow_notes.specs.declared.notes.Note.TheVariants as note
 
 -- what a resume leaves of a stream that it isn't of

@@ -1,6 +1,6 @@
 -- The pauses that a rise brings.
-use Rattle.flow_gate.specs.declared.ids.BufferId.{BufferId}
-use Rattle.flow_gate.specs.declared.ids.FlowId.{FlowId}
+use Rattle.flow_rules.specs.declared.ids.BufferId.{BufferId}
+use Rattle.flow_rules.specs.declared.ids.FlowId.{FlowId}
 use Rattle.plain_laws.specs.Owing.{due_if, pauses_for}
 use Rattle.std.proofs.Common.{refl}
 use Rattle.std.specs.Prelude.{Bool, List, [], false, flat_map, if◌then◌else◌, map, not, true, ℕ, ◌&&◌, ◌++◌, ◌∷◌, ◌≡◌}

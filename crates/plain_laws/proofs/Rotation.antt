@@ -1,6 +1,6 @@
 -- Which flow is next on the connection.
 use Rattle.std.proofs.lemmas.Bool.{or_left, or_right, and_parts as and_true}
-use Rattle.flow_gate.specs.declared.ids.FlowId.{FlowId}
+use Rattle.flow_rules.specs.declared.ids.FlowId.{FlowId}
 use Rattle.plain_laws.proofs.Streams.{all_at, by_case, not_both, number_is, same_number}
 use Rattle.plain_laws.specs.Next.{IsNextAbove, IsNextAround, is_ready, unit_of}
 use Rattle.plain_laws.specs.Regular.{IsRising}

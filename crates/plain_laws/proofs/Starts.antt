@@ -3,8 +3,8 @@ use Rattle.plain_laws.proofs.Leaving.{flow_kept}
 use Rattle.std.proofs.lemmas.Bool.{or_parts}
 use Rattle.plain_laws.specs.Words.{Past, conn_high, conn_lows, conn_out, end_out, lows_of}
 use Rattle.tape_laws.specs.Doomed.{is_swept}
-use Rattle.flow_gate.specs.declared.ids.BufferId.{BufferId}
-use Rattle.flow_gate.specs.declared.ids.FlowId.{FlowId}
+use Rattle.flow_rules.specs.declared.ids.BufferId.{BufferId}
+use Rattle.flow_rules.specs.declared.ids.FlowId.{FlowId}
 use Rattle.plain_laws.proofs.Extending.{MayAdd, one_owed, regular_more}
 use Rattle.plain_laws.proofs.Flags.{send_same, write_same}
 use Rattle.plain_laws.proofs.Leaving.{Leaves, once_kept, room_kept, same_len, unborn_kept}
@@ -26,7 +26,7 @@ use Rattle.tape_laws.specs.Pauses.{Heads, Owed}
 use Rattle.tape_laws.specs.Plain.{plain_setup}
 use Rattle.tape_laws.specs.Units.{WantsStart}
 use Rattle.tape_laws.specs.declared.PlainLimits.{PlainLimits}
-use Rattle.flow_gate.specs.declared.ids.BufferId.TheVariants as buffer
+use Rattle.flow_rules.specs.declared.ids.BufferId.TheVariants as buffer
 use Rattle.flow_notes.specs.declared.notes.Note.TheVariants as note
 
 pub unstarted : (x last : ℕ) (h : Past) → AtMost last (started h) → last < x → has (started h) x ≡ false

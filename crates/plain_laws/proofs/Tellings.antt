@@ -1,8 +1,8 @@
 -- How often a stream stands among flows that are to be told, and among pauses that are due.
 use Rattle.std.proofs.Math.Nat.{zero-add}
 use Rattle.std.proofs.lemmas.Bool.{or_left, or_right}
-use Rattle.flow_gate.specs.declared.ids.BufferId.{BufferId}
-use Rattle.flow_gate.specs.declared.ids.FlowId.{FlowId}
+use Rattle.flow_rules.specs.declared.ids.BufferId.{BufferId}
+use Rattle.flow_rules.specs.declared.ids.FlowId.{FlowId}
 use Rattle.plain_laws.proofs.Counting.{one_if, told_of}
 use Rattle.plain_laws.proofs.Rising.{rising_apart}
 use Rattle.plain_laws.proofs.Streams.{by_case, differs_back, has_one, number_is, same_number, same_request}

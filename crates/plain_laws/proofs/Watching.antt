@@ -1,6 +1,6 @@
 -- Which flows watch a buffer.
 use Rattle.std.proofs.lemmas.Bool.{or_parts}
-use Rattle.flow_gate.specs.declared.ids.FlowId.{FlowId}
+use Rattle.flow_rules.specs.declared.ids.FlowId.{FlowId}
 use Rattle.plain_laws.proofs.Rising.{rising_apart}
 use Rattle.plain_laws.proofs.Streams.{by_case, differs_back, number_is, same_number}
 use Rattle.plain_laws.specs.Regular.{IsRising}
@@ -13,7 +13,7 @@ use Rattle.tape_laws.specs.Flows.{request, same_buffer}
 use Rattle.tape_laws.specs.Plain.{plain_setup}
 use Rattle.tape_laws.specs.Sources.{watchers}
 use Rattle.tape_laws.specs.declared.PlainLimits.{PlainLimits}
-use Rattle.flow_gate.specs.declared.ids.BufferId.TheVariants as buffer
+use Rattle.flow_rules.specs.declared.ids.BufferId.TheVariants as buffer
 use Rattle.plain_laws.proofs.Streams.{or_true as has_was_tail}
 
 pub write_watchers : (limits : PlainLimits) (h : Past) → watchers (plain_setup limits) (buffer.Write 0) h ≡ map request (live h)

@@ -12,7 +12,7 @@ use Rattle.tape_laws.specs.Summary.{peak}
 use Rattle.tape_laws.specs.Watermark.{above}
 use Rattle.tape_laws.specs.World.{out, place}
 use Rattle.tape_laws.specs.declared.PlainLimits.{PlainLimits}
-use Rattle.flow_gate.specs.declared.ids.BufferId.TheVariants as buffer
+use Rattle.flow_rules.specs.declared.ids.BufferId.TheVariants as buffer
 
 -- the octets, flag and words of a stream
 pub record KeepsStream (limits : PlainLimits) (x : ℕ) (old new : History NoMark) : Type 0 where

@@ -1,5 +1,5 @@
 -- What is still owed between a note and those that have to follow it.
-use Rattle.flow_gate.specs.declared.ids.BufferId.{BufferId}
+use Rattle.flow_rules.specs.declared.ids.BufferId.{BufferId}
 use Rattle.flow_rules.specs.declared.causes.Cause.{Cause}
 use Rattle.flow_notes.specs.declared.notes.Note.{Note}
 use Rattle.std.specs.Prelude.{Bool, List, [], count_by, false, if◌then◌else◌, map, true, ℕ, ◌==◌, ◌∷◌, ◌≡◌, ◌⊎◌}

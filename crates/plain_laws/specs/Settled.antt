@@ -7,7 +7,7 @@ use Rattle.tape_laws.specs.History.{History, NoMark}
 use Rattle.tape_laws.specs.Pauses.{pending_lows}
 use Rattle.tape_laws.specs.Plain.{plain_setup}
 use Rattle.tape_laws.specs.declared.PlainLimits.{PlainLimits}
-use Rattle.flow_gate.specs.declared.ids.BufferId.TheVariants as buffer
+use Rattle.flow_rules.specs.declared.ids.BufferId.TheVariants as buffer
 
 pub record Settled (limits : PlainLimits) (h : History NoMark) : Type 0 where
   pub regular : Regular limits nothing h

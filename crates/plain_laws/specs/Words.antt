@@ -1,6 +1,6 @@
 -- What a plain session's streams and its connection hold, in short.
 use Rattle.flow_notes.specs.declared.events.PlainEvent.{PlainEvent}
-use Rattle.flow_gate.specs.declared.ids.FlowId.{FlowId}
+use Rattle.flow_rules.specs.declared.ids.FlowId.{FlowId}
 use Rattle.plain_laws.specs.StepNotes.{begin_notes, body_notes, frame_notes, move_notes}
 use Rattle.std.specs.Prelude.{Bool, List, true, ℕ, ◌≡◌}
 use Rattle.tape_laws.specs.Dispatches.{has, live}
@@ -14,7 +14,7 @@ use Rattle.tape_laws.specs.Sources.{disabled}
 use Rattle.tape_laws.specs.Watermark.{above, drains_at, rises_at}
 use Rattle.tape_laws.specs.World.{out, place}
 use Rattle.tape_laws.specs.declared.PlainLimits.{PlainLimits}
-use Rattle.flow_gate.specs.declared.ids.BufferId.TheVariants as buffer
+use Rattle.flow_rules.specs.declared.ids.BufferId.TheVariants as buffer
 use Rattle.flow_notes.specs.declared.events.Event.TheVariants as event
 use Rattle.flow_notes.specs.declared.notes.Note.TheVariants as note
 

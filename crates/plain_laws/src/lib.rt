@@ -2,7 +2,7 @@
 //! follow a lawful history, and what the history is then. No core is named here.
 #![tactic(auto)]
 
-ghost use Rattle.flow_gate.specs.declared.ids.BufferId.{BufferId};
+ghost use Rattle.flow_rules.specs.declared.ids.BufferId.{BufferId};
 ghost use Rattle.std.specs.Prelude.{IsTrue, ◌↔◌};
 ghost use Rattle.tape_laws.specs.Headline.{Headline};
 ghost use Rattle.tape_laws.specs.History.{History, NoMark};

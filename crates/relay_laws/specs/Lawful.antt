@@ -9,7 +9,7 @@ use Rattle.tape_laws.specs.Dispatches.{turns}
 use Rattle.tape_laws.specs.Doomed.{LeavesDoomed}
 use Rattle.tape_laws.specs.History.{BeforeOthers, BeforeTurn, EachFollows, Marked, NoMark, Noted, Step}
 use Rattle.tape_laws.specs.Pauses.{Heads, count, pauses, resumes}
-use Rattle.flow_gate.specs.declared.ids.BufferId.TheVariants as buffer
+use Rattle.flow_rules.specs.declared.ids.BufferId.TheVariants as buffer
 use Rattle.flow_notes.specs.declared.events.Event.TheVariants as event
 use Rattle.flow_notes.specs.declared.notes.Note.TheVariants as note
 

@@ -1,5 +1,5 @@
 -- The connections of a relay, and the pairs that they form: where the octets of each go.
-use Rattle.flow_gate.specs.declared.ids.FlowId.{FlowId}
+use Rattle.flow_rules.specs.declared.ids.FlowId.{FlowId}
 use Rattle.relay_laws.specs.declared.Feed.{Feed}
 use Rattle.std.specs.Prelude.{Bool, List, None, Option, Some, [], false, filter, if◌then◌else◌, not, ℕ, ◌&&◌, ◌++◌, ◌+◌, ◌==◌, ◌||◌, ◌∷◌}
 use Rattle.tape_laws.specs.Flows.{request, response}

@@ -1,5 +1,5 @@
 -- What a log of write buffers stands for: their lengths, and their greatest so far.
-use Rattle.flow_gate.specs.declared.ids.FlowId.{FlowId}
+use Rattle.flow_rules.specs.declared.ids.FlowId.{FlowId}
 use Rattle.flow_notes.specs.declared.events.Event.{Event}
 use Rattle.flow_notes.specs.declared.notes.CloseCause.{CloseCause}
 use Rattle.flow_notes.specs.declared.notes.Note.{Note}

@@ -9,7 +9,7 @@ use Rattle.tape_laws.specs.Plain.{plain_setup}
 use Rattle.tape_laws.specs.Report.{report_line}
 use Rattle.tape_laws.specs.Summary.{peak}
 use Rattle.tape_laws.specs.declared.PlainLimits.{PlainLimits}
-use Rattle.flow_gate.specs.declared.ids.BufferId.TheVariants as buffer
+use Rattle.flow_rules.specs.declared.ids.BufferId.TheVariants as buffer
 use Rattle.flow_rules.specs.declared.causes.Cause.TheVariants as cause
 use Rattle.flow_notes.specs.declared.notes.Note.TheVariants as note
 

@@ -8,7 +8,7 @@ use Rattle.std.specs.Prelude.{List, ℕ, ◌+◌, ◌≡◌}
 use Rattle.tape_laws.specs.History.{History, NoMark, notes_of, onto}
 use Rattle.tape_laws.specs.PlainTape.{IsPlainLawful}
 use Rattle.tape_laws.specs.declared.PlainLimits.{PlainLimits}
-use Rattle.flow_gate.specs.declared.ids.BufferId.TheVariants as buffer
+use Rattle.flow_rules.specs.declared.ids.BufferId.TheVariants as buffer
 
 pub record TallyIs (limits : PlainLimits) (t : Tally) (h : History NoMark) : Type 0 where
   pub streams_are : t.streams ≡ sum_by streams_in (notes_of h)

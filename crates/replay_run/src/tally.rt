@@ -25,8 +25,8 @@ pub struct Tally {
 
 impl Tally {
     ghost use Rattle.std.specs.Prelude.{◌≡◌, [], OnOk};
-    ghost use Rattle.flow_gate.specs.declared.ids.BufferId.{BufferId};
-    ghost use Rattle.flow_gate.specs.declared.ids.FlowId.{FlowId};
+    ghost use Rattle.flow_rules.specs.declared.ids.BufferId.{BufferId};
+    ghost use Rattle.flow_rules.specs.declared.ids.FlowId.{FlowId};
     ghost use Rattle.tape_laws.specs.declared.PlainLimits.{PlainLimits};
     ghost use Rattle.flow_notes.specs.Passages.{notes_of_passage};
     ghost use Rattle.replay_run.specs.Tally.{Counted, TallyGoes, TallyIs};

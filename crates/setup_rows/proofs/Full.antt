@@ -1,5 +1,5 @@
 -- A sound tape on which octets fill a Meter over its limit.
-use Rattle.flow_gate.specs.declared.ids.FlowId.{FlowId}
+use Rattle.flow_rules.specs.declared.ids.FlowId.{FlowId}
 use Rattle.flow_laws.proofs.Losing.{front_more, front_same}
 use Rattle.flow_laws.proofs.MadeUp.{laws_apply}
 use Rattle.flow_laws.specs.Made.{Asks, Came, Made, made_body, made_session}

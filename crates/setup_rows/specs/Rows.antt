@@ -1,6 +1,6 @@
 -- What the made-up kind of session shows of its steps: who is paused and told, and in which order.
-use Rattle.flow_gate.specs.declared.ids.BufferId.{BufferId}
-use Rattle.flow_gate.specs.declared.ids.FlowId.{FlowId}
+use Rattle.flow_rules.specs.declared.ids.BufferId.{BufferId}
+use Rattle.flow_rules.specs.declared.ids.FlowId.{FlowId}
 use Rattle.flow_laws.specs.Made.{Asks, Came, Made, MadeMark, made_session, made_setup}
 use Rattle.flow_laws.specs.Steps.{after}
 use Rattle.flow_laws.specs.Suits.{IsSound}
@@ -13,7 +13,7 @@ use Rattle.tape_laws.specs.Pauses.{due_pauses}
 use Rattle.tape_laws.specs.Sources.{is_live, source_buffers}
 use Rattle.tape_laws.specs.Units.{WantsStart}
 use Rattle.tape_laws.specs.Watermark.{rises_at}
-use Rattle.flow_gate.specs.declared.ids.BufferId.TheVariants as buffer
+use Rattle.flow_rules.specs.declared.ids.BufferId.TheVariants as buffer
 use Rattle.flow_notes.specs.declared.events.Event.TheVariants as event
 use Rattle.flow_notes.specs.declared.notes.Note.TheVariants as note
 

@@ -1,5 +1,5 @@
 -- No buffer holds more than its bound.
-use Rattle.flow_gate.specs.declared.ids.FlowId.{FlowId}
+use Rattle.flow_rules.specs.declared.ids.FlowId.{FlowId}
 use Rattle.std.specs.Bool.{OnTrue}
 use Rattle.std.specs.List.{AllByRecursion}
 use Rattle.std.specs.Prelude.{IfSome, List, [], if◌then◌else◌, length, max, nat_lt, sum_by, ℕ, ◌*◌, ◌+◌, ◌∷◌, ◌≤◌}

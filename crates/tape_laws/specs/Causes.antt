@@ -1,5 +1,5 @@
 -- Why a stream of a plain session may be doomed: each doom has its cause in its own dispatch.
-use Rattle.flow_gate.specs.declared.ids.FlowId.{FlowId}
+use Rattle.flow_rules.specs.declared.ids.FlowId.{FlowId}
 use Rattle.flow_rules.specs.declared.causes.Cause.{Cause}
 use Rattle.std.specs.List.{list_any}
 use Rattle.std.specs.Prelude.{Bool, IsTrue, not, ℕ, ◌&&◌}

@@ -1,5 +1,5 @@
 -- Whether the end of a flow was framed.
-use Rattle.flow_gate.specs.declared.ids.FlowId.{FlowId}
+use Rattle.flow_rules.specs.declared.ids.FlowId.{FlowId}
 use Rattle.std.specs.Option.{option_map_or}
 use Rattle.std.specs.Prelude.{Bool, [], false, ◌&&◌, ◌||◌, ◌∷◌}
 use Rattle.tape_laws.specs.Flows.{same_flow}

@@ -1,5 +1,5 @@
 -- Flows and buffers by name.
-use Rattle.flow_gate.specs.declared.ids.FlowId.{FlowId}
+use Rattle.flow_rules.specs.declared.ids.FlowId.{FlowId}
 use Rattle.std.specs.Prelude.{false, true, ℕ}
 pub use Rattle.flow_gate.specs.Ids.{same_buffer, same_flow}
 

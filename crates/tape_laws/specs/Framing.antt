@@ -1,5 +1,5 @@
 -- What of a flow may be framed (RFC 9113 section 8.1).
-use Rattle.flow_gate.specs.declared.ids.FlowId.{FlowId}
+use Rattle.flow_rules.specs.declared.ids.FlowId.{FlowId}
 use Rattle.flow_rules.specs.Units.{carries_end as ends_with, head_may_go, next_unit as first_unit}
 use Rattle.flow_rules.specs.declared.unit.Unit.{Unit as FlowUnit}
 use Rattle.std.specs.Prelude.{Bool, IfSome, IsTrue, false, ℕ, ◌&&◌, ◌≡◌}

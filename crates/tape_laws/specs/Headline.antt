@@ -1,5 +1,5 @@
 -- What a tape of whole dispatches promises to an operator, for every flow and buffer.
-use Rattle.flow_gate.specs.declared.ids.FlowId.{FlowId}
+use Rattle.flow_rules.specs.declared.ids.FlowId.{FlowId}
 use Rattle.std.specs.Prelude.{◌≡◌}
 use Rattle.tape_laws.specs.Bounds.{IsBounded}
 use Rattle.tape_laws.specs.History.{AtEachMoment, BeforeTurn, EachFollows, History}

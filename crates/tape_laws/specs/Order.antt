@@ -1,5 +1,5 @@
 -- The order of the units that a connection frames: what waits first, then window updates, then its flows in rotation.
-use Rattle.flow_gate.specs.declared.ids.FlowId.{FlowId}
+use Rattle.flow_rules.specs.declared.ids.FlowId.{FlowId}
 use Rattle.flow_rules.specs.Units.{is_unit}
 use Rattle.flow_rules.specs.declared.unit.Unit.{Unit as FlowUnit}
 use Rattle.std.specs.Prelude.{IfSome, List, None, Option, Some, [], filter, if◌then◌else◌, nat_le, nat_lt, unwrap_or, ℕ, ◌&&◌, ◌++◌, ◌==◌, ◌∷◌, ◌≡◌}

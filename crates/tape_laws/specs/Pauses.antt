@@ -1,6 +1,6 @@
 -- The read-disable count of a flow, and which pauses and resumes are owed: what is due is kept as a list.
-use Rattle.flow_gate.specs.declared.ids.BufferId.{BufferId}
-use Rattle.flow_gate.specs.declared.ids.FlowId.{FlowId}
+use Rattle.flow_rules.specs.declared.ids.BufferId.{BufferId}
+use Rattle.flow_rules.specs.declared.ids.FlowId.{FlowId}
 use Rattle.flow_notes.specs.declared.notes.Note.{Note}
 use Rattle.std.specs.Prelude.{Bool, List, [], count_by, drop, false, filter, flat_map, if◌then◌else◌, map, not, option_map, option_to_list, sum_by, ℕ, ◌&&◌, ◌++◌, ◌+◌, ◌-◌, ◌==◌, ◌∷◌, ◌≡◌}
 use Rattle.tape_laws.specs.Connections.{was_closed}
@@ -10,7 +10,7 @@ use Rattle.tape_laws.specs.Setup.{Setup}
 use Rattle.tape_laws.specs.Sources.{EachLive, disabled, source_buffers, watchers}
 use Rattle.tape_laws.specs.Watermark.{above, drains_at, rises_at}
 use Rattle.tape_laws.specs.World.{framed_on, last_place}
-use Rattle.flow_gate.specs.declared.ids.BufferId.TheVariants as buffer
+use Rattle.flow_rules.specs.declared.ids.BufferId.TheVariants as buffer
 use Rattle.flow_notes.specs.declared.notes.CloseCause.TheVariants as closed
 use Rattle.flow_notes.specs.declared.notes.Note.TheVariants as note
 

@@ -15,7 +15,7 @@ use Rattle.tape_laws.specs.Setup.{Session}
 use Rattle.tape_laws.specs.Sources.{EachLive, disabled}
 use Rattle.tape_laws.specs.Watermark.{above}
 use Rattle.tape_laws.specs.World.{last_place, received}
-use Rattle.flow_gate.specs.declared.ids.BufferId.TheVariants as buffer
+use Rattle.flow_rules.specs.declared.ids.BufferId.TheVariants as buffer
 
 -- P holds of each place from 0 to p
 abbrev pub EachPlace : (ℕ → Type 0) → ℕ → Type 0

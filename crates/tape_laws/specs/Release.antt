@@ -1,5 +1,5 @@
 -- What may move, and how much.
-use Rattle.flow_gate.specs.declared.ids.FlowId.{FlowId}
+use Rattle.flow_rules.specs.declared.ids.FlowId.{FlowId}
 use Rattle.flow_rules.specs.Moves.{is_free as is_free_at, last_free as free, may_release as releases}
 use Rattle.flow_rules.specs.Units.{carried}
 use Rattle.std.specs.Prelude.{Bool, IsTrue, Option, Some, false, length, nat_lt, ℕ, ◌+◌, ◌<◌, ◌||◌, ◌≡◌}
@@ -10,7 +10,7 @@ use Rattle.tape_laws.specs.Setup.{Setup}
 use Rattle.tape_laws.specs.Sources.{is_live}
 use Rattle.tape_laws.specs.State.{state_of}
 use Rattle.tape_laws.specs.Watermark.{above}
-use Rattle.flow_gate.specs.declared.ids.BufferId.TheVariants as buffer
+use Rattle.flow_rules.specs.declared.ids.BufferId.TheVariants as buffer
 use Rattle.flow_notes.specs.declared.notes.Note.TheVariants as note
 
 -- what a place may release, whether it is free, and the last one that is

@@ -1,5 +1,5 @@
 -- The text of a summary: peaks of the buffers that ever held an octet, pauses with their resumes, and the dispatches.
-use Rattle.flow_gate.specs.declared.ids.FlowId.{FlowId}
+use Rattle.flow_rules.specs.declared.ids.FlowId.{FlowId}
 use Rattle.flow_notes.specs.Buffer.{buffer_words}
 use Rattle.flow_notes.specs.Flow.{flow_word}
 use Rattle.flow_notes.specs.Line.{line_of, newline}
@@ -12,7 +12,7 @@ use Rattle.tape_laws.specs.Setup.{Setup}
 use Rattle.tape_laws.specs.Summary.{Paused, all_flows, paused_lines, peak}
 use Rattle.tape_laws.specs.Units.{StageKind}
 use Rattle.tape_laws.specs.Watermark.{kind_limit, limit}
-use Rattle.flow_gate.specs.declared.ids.BufferId.TheVariants as buffer
+use Rattle.flow_rules.specs.declared.ids.BufferId.TheVariants as buffer
 
 -- a line of these words
 abbrev pub report_line : List (List ℕ) → List ℕ

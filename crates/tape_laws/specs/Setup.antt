@@ -1,5 +1,5 @@
 -- What the laws are told of a session's kind. A plain and a wire session differ in these records alone.
-use Rattle.flow_gate.specs.declared.ids.FlowId.{FlowId}
+use Rattle.flow_rules.specs.declared.ids.FlowId.{FlowId}
 use Rattle.std.specs.Prelude.{Bool, List, Option, ℕ}
 use Rattle.tape_laws.specs.History.{History, Step}
 use Rattle.tape_laws.specs.Units.{Demand, Grant, Pick, StageKind, Waiting}

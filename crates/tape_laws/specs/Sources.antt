@@ -1,6 +1,6 @@
 -- The sources of a flow: the buffers that pause it while they are above.
-use Rattle.flow_gate.specs.declared.ids.BufferId.{BufferId}
-use Rattle.flow_gate.specs.declared.ids.FlowId.{FlowId}
+use Rattle.flow_rules.specs.declared.ids.BufferId.{BufferId}
+use Rattle.flow_rules.specs.declared.ids.FlowId.{FlowId}
 use Rattle.flow_rules.specs.Kinds.{Kind, Send}
 use Rattle.flow_rules.specs.Sources.{SourceAt, sources_from, write_source}
 use Rattle.std.specs.List.{AllByRecursion, list_any}

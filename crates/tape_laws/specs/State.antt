@@ -1,5 +1,5 @@
 -- A flow of a history as the record that decides what goes on.
-use Rattle.flow_gate.specs.declared.ids.FlowId.{FlowId}
+use Rattle.flow_rules.specs.declared.ids.FlowId.{FlowId}
 use Rattle.flow_rules.specs.State.{FlowState}
 use Rattle.std.specs.Prelude.{length}
 use Rattle.tape_laws.specs.Ends.{end_framed}

@@ -1,6 +1,6 @@
 -- What the summary counts: the greatest lengths, and each pause with its resume.
-use Rattle.flow_gate.specs.declared.ids.BufferId.{BufferId}
-use Rattle.flow_gate.specs.declared.ids.FlowId.{FlowId}
+use Rattle.flow_rules.specs.declared.ids.BufferId.{BufferId}
+use Rattle.flow_rules.specs.declared.ids.FlowId.{FlowId}
 use Rattle.std.specs.Prelude.{List, Option, [], flat_map, if◌then◌else◌, length, max, slice_get, ℕ, ◌&&◌, ◌++◌, ◌∷◌}
 use Rattle.tape_laws.specs.Dispatches.{started, turns}
 use Rattle.tape_laws.specs.Flows.{same_buffer, same_flow}

@@ -1,5 +1,5 @@
 -- How many octets a Meter may let go.
-use Rattle.flow_gate.specs.declared.ids.FlowId.{FlowId}
+use Rattle.flow_rules.specs.declared.ids.FlowId.{FlowId}
 use Rattle.std.specs.Prelude.{List, [], if◌then◌else◌, max, min, ℕ, ◌&&◌, ◌*◌, ◌+◌, ◌-◌, ◌/◌, ◌==◌, ◌∷◌}
 use Rattle.tape_laws.specs.Dispatches.{time}
 use Rattle.tape_laws.specs.Flows.{same_flow}

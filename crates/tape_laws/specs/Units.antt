@@ -1,5 +1,5 @@
 -- What may be framed on a connection: a unit is one frame, or one header block with its frames.
-use Rattle.flow_gate.specs.declared.ids.FlowId.{FlowId}
+use Rattle.flow_rules.specs.declared.ids.FlowId.{FlowId}
 use Rattle.flow_rules.specs.declared.causes.Cause.{Cause}
 use Rattle.flow_notes.specs.declared.notes.CloseCause.{CloseCause}
 use Rattle.flow_rules.specs.Kinds.{Hold as HoldKind, Kind, Meter as MeterKind}

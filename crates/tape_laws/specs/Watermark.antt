@@ -1,12 +1,12 @@
 -- When a buffer is above its high watermark, by its lengths at each moment so far.
-use Rattle.flow_gate.specs.declared.ids.BufferId.{BufferId}
+use Rattle.flow_rules.specs.declared.ids.BufferId.{BufferId}
 use Rattle.std.specs.Prelude.{Bool, List, [], false, if◌then◌else◌, not, ℕ, ◌&&◌, ◌-◌, ◌==◌, ◌∷◌}
 use Rattle.tape_laws.specs.History.{History, Step}
 use Rattle.tape_laws.specs.Setup.{Setup}
 use Rattle.tape_laws.specs.Units.{Hold, Meter, StageKind}
 use Rattle.tape_laws.specs.World.{len}
 use Rattle.wm_buffer.specs.Watermark.{above_after}
-use Rattle.flow_gate.specs.declared.ids.BufferId.TheVariants as buffer
+use Rattle.flow_rules.specs.declared.ids.BufferId.TheVariants as buffer
 
 abbrev pub kind_limit : StageKind → ℕ
 kind_limit (Hold limit) = limit

@@ -1,6 +1,6 @@
 -- The octets in their places, as the notes move them. Nothing else moves octets.
-use Rattle.flow_gate.specs.declared.ids.BufferId.{BufferId}
-use Rattle.flow_gate.specs.declared.ids.FlowId.{FlowId}
+use Rattle.flow_rules.specs.declared.ids.BufferId.{BufferId}
+use Rattle.flow_rules.specs.declared.ids.FlowId.{FlowId}
 use Rattle.flow_notes.specs.declared.notes.Note.{Note}
 use Rattle.h2_frames.specs.Head.{data_head, frame_head}
 use Rattle.std.specs.Int.{to_be_bytes, w32}
@@ -9,7 +9,7 @@ use Rattle.tape_laws.specs.Connections.{was_closed}
 use Rattle.tape_laws.specs.Flows.{same_flow}
 use Rattle.tape_laws.specs.History.{History, Noted}
 use Rattle.tape_laws.specs.Setup.{Setup}
-use Rattle.flow_gate.specs.declared.ids.BufferId.TheVariants as buffer
+use Rattle.flow_rules.specs.declared.ids.BufferId.TheVariants as buffer
 use Rattle.flow_notes.specs.declared.notes.CloseCause.TheVariants as closed
 use Rattle.flow_notes.specs.declared.events.Event.TheVariants as event
 use Rattle.flow_notes.specs.declared.notes.Note.TheVariants as note

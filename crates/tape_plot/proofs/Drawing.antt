@@ -9,7 +9,7 @@ use Rattle.std.specs.BTreeMap.{BTreeMap, get, is_at}
 use Rattle.std.specs.List.{Contains, concat}
 use Rattle.std.specs.Ordering.{nat_cmp}
 use Rattle.std.specs.Prelude.{All, Bool, List, None, Option, Some, [], false, get_or, length, min, slice_index_or, true, ℕ, ◌+◌, ◌++◌, ◌<◌, ◌∷◌, ◌≡◌, ◌≤◌, ◌⊎◌}
-use Rattle.flow_gate.specs.declared.ids.FlowId.{FlowId}
+use Rattle.flow_rules.specs.declared.ids.FlowId.{FlowId}
 use Rattle.tape_plot.proofs.Holding.{lt_or_le}
 use Rattle.tape_plot.proofs.Laning.{fits_self}
 use Rattle.tape_plot.proofs.Mapping.{at_number}
@@ -36,7 +36,7 @@ use Rattle.tape_plot.specs.declared.flow.Flow.{Flow}
 use Rattle.tape_plot.specs.declared.flow.Place.{Place}
 use Rattle.tape_plot.specs.declared.levels.Levels.{Levels}
 use Rattle.tape_plot.specs.declared.limits.Limits.{Limits}
-use Rattle.flow_gate.specs.declared.ids.BufferId.TheVariants as ids
+use Rattle.flow_rules.specs.declared.ids.BufferId.TheVariants as ids
 use Rattle.tape_plot.specs.declared.highest.Buffer.TheVariants as buffer
 
 -- ---- a lane

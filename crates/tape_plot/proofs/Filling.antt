@@ -1,5 +1,5 @@
 -- Each buffer of what is kept that ever held an octet is one of those that are put, with its height.
-use Rattle.flow_gate.specs.declared.ids.FlowId.{FlowId}
+use Rattle.flow_rules.specs.declared.ids.FlowId.{FlowId}
 use Rattle.std.proofs.Common.{ap, append_assoc, arith, length-append, refl, subst, sym, ◌∙◌}
 use Rattle.std.proofs.Math.ListN.{get_or-eq_default}
 use Rattle.std.proofs.Math.Seq.{get_or-append_seam}
@@ -32,7 +32,7 @@ use Rattle.tape_plot.specs.declared.height.Height.{Height}
 use Rattle.tape_plot.specs.declared.highest.Ranked.{Ranked}
 use Rattle.tape_plot.specs.declared.levels.Levels.{Levels}
 use Rattle.tape_plot.specs.declared.limits.Limits.{Limits}
-use Rattle.flow_gate.specs.declared.ids.BufferId.TheVariants as ids
+use Rattle.flow_rules.specs.declared.ids.BufferId.TheVariants as ids
 use Rattle.tape_plot.specs.declared.highest.Buffer.TheVariants as buffer
 
 -- the most that a lane was

@@ -1,5 +1,5 @@
 -- What a tape tells of its places and write buffers is how many octets lie in them.
-use Rattle.flow_gate.specs.declared.ids.FlowId.{FlowId}
+use Rattle.flow_rules.specs.declared.ids.FlowId.{FlowId}
 use Rattle.h2_frames.specs.Head.{data_head}
 use Rattle.std.proofs.Common.{ap, arith, inl, inr, length-append, length-drop, refl, subst, suc, sym, true≢false, ◌∙◌}
 use Rattle.std.proofs.Math.ListN.{get_or-eq_default}

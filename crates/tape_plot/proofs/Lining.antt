@@ -1,5 +1,5 @@
 -- Lines that are read and spelled.
-use Rattle.flow_gate.specs.declared.ids.BufferId.{BufferId}
+use Rattle.flow_rules.specs.declared.ids.BufferId.{BufferId}
 use Rattle.flow_notes.specs.Buffer.{buffer_words}
 use Rattle.flow_notes.specs.Fields.{FitsNote}
 use Rattle.flow_notes.specs.Flow.{flow_word}
@@ -17,7 +17,7 @@ use Rattle.tape_laws.specs.Summary.{Paused}
 use Rattle.tape_plot.specs.Lines.{line_text}
 use Rattle.tape_plot.specs.Reading.{ReadsNote}
 use Rattle.tape_plot.specs.declared.report.Line.{Line}
-use Rattle.flow_gate.specs.declared.ids.BufferId.TheVariants as buffer
+use Rattle.flow_rules.specs.declared.ids.BufferId.TheVariants as buffer
 use Rattle.tape_plot.specs.declared.report.Line.TheVariants as line
 
 -- ---- a note

@@ -1,5 +1,5 @@
 -- All exchanges and all connections, note by note.
-use Rattle.flow_gate.specs.declared.ids.FlowId.{FlowId}
+use Rattle.flow_rules.specs.declared.ids.FlowId.{FlowId}
 use Rattle.flow_notes.specs.declared.notes.Note.{Note}
 use Rattle.std.proofs.Common.{ap, arith, refl, subst, sym, true≢false, ◌∙◌}
 use Rattle.std.proofs.lemmas.Bool.Decides.{nat_tests}

@@ -1,5 +1,5 @@
 -- The picture of a tape shows what was read of it.
-use Rattle.flow_gate.specs.declared.ids.FlowId.{FlowId}
+use Rattle.flow_rules.specs.declared.ids.FlowId.{FlowId}
 use Rattle.session_run.specs.Newlines.{has_newline}
 use Rattle.session_run.specs.declared.status.Status.{Status}
 use Rattle.std.proofs.Common.{ap, inl, inr, refl, subst, sym, ◌∙◌}
@@ -32,7 +32,7 @@ use Rattle.tape_plot.specs.declared.limits.Limits.{Limits}
 use Rattle.tape_plot.specs.declared.report.Outcome.{Outcome}
 use Rattle.tape_plot.specs.declared.report.Refusal.{Refusal}
 use Rattle.tape_plot.specs.declared.tape.Tape.{Tape}
-use Rattle.flow_gate.specs.declared.ids.BufferId.TheVariants as ids
+use Rattle.flow_rules.specs.declared.ids.BufferId.TheVariants as ids
 use Rattle.session_run.specs.declared.status.Status.TheVariants as status
 use Rattle.tape_plot.specs.declared.highest.Buffer.TheVariants as buffer
 

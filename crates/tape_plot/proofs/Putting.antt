@@ -1,5 +1,5 @@
 -- The buffers of what is kept are put one after the other, and the highest are picked.
-use Rattle.flow_gate.specs.declared.ids.FlowId.{FlowId}
+use Rattle.flow_rules.specs.declared.ids.FlowId.{FlowId}
 use Rattle.std.proofs.Common.{Bor, ap, append_assoc, arith, refl, subst, sym, ◌∙◌}
 use Rattle.std.proofs.Math.Seq.{drop-cons}
 use Rattle.std.proofs.lemmas.List.Elements.{All-map, All-weaker}
@@ -25,7 +25,7 @@ use Rattle.tape_plot.specs.declared.height.Height.{Height}
 use Rattle.tape_plot.specs.declared.highest.Ranked.{Ranked}
 use Rattle.tape_plot.specs.declared.levels.Levels.{Levels}
 use Rattle.tape_plot.specs.declared.limits.Limits.{Limits}
-use Rattle.flow_gate.specs.declared.ids.BufferId.TheVariants as ids
+use Rattle.flow_rules.specs.declared.ids.BufferId.TheVariants as ids
 use Rattle.tape_plot.specs.declared.highest.Buffer.TheVariants as buffer
 
 kept_more : (xs ys kept : List Ranked) → kept_of (xs ++ ys) kept ≡ kept_of ys (kept_of xs kept)

@@ -1,6 +1,6 @@
 -- Lines of a tape, as they are taken up.
 use Rattle.flow_gate.specs.Ids.{same_buffer}
-use Rattle.flow_gate.specs.declared.ids.BufferId.{BufferId}
+use Rattle.flow_rules.specs.declared.ids.BufferId.{BufferId}
 use Rattle.flow_notes.specs.Fields.{FitsNote}
 use Rattle.flow_notes.specs.Line.{newline}
 use Rattle.flow_notes.specs.Note.{IsNote, note_spelling}

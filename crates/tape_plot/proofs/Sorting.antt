@@ -1,6 +1,6 @@
 -- The buffers of what is kept stand in order: by exchanges, a request before its response, place by place, and then by connections.
 use Rattle.flow_gate.proofs.Places.{less_cmp}
-use Rattle.flow_gate.specs.declared.ids.FlowId.{FlowId}
+use Rattle.flow_rules.specs.declared.ids.FlowId.{FlowId}
 use Rattle.std.proofs.Common.{ap, arith, refl, sym, ◌∙◌}
 use Rattle.std.proofs.lemmas.List.Elements.{All-append, All-cons, All-head, All-nil, All-tail, All-weaker}
 use Rattle.std.proofs.lemmas.Map.Keys.{sorted_head, sorted_tail}
@@ -23,7 +23,7 @@ use Rattle.tape_plot.specs.declared.exchange.Exchange.{Exchange}
 use Rattle.tape_plot.specs.declared.flow.Place.{Place}
 use Rattle.tape_plot.specs.declared.highest.Ranked.{Ranked}
 use Rattle.tape_plot.specs.declared.limits.Limits.{Limits}
-use Rattle.flow_gate.specs.declared.ids.BufferId.TheVariants as ids
+use Rattle.flow_rules.specs.declared.ids.BufferId.TheVariants as ids
 use Rattle.tape_plot.specs.declared.highest.Buffer.TheVariants as buffer
 
 -- two lists in order, of which the one comes before the other

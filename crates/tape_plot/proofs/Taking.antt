@@ -1,6 +1,6 @@
 -- What a pick takes: what the choice asks for, or the highest.
-use Rattle.flow_gate.specs.contracts.ids.FlowIdPartialEq.TheImpl as flow_eq
-use Rattle.flow_gate.specs.declared.ids.FlowId.{FlowId}
+use Rattle.flow_rules.specs.contracts.ids.FlowIdPartialEq.TheImpl as flow_eq
+use Rattle.flow_rules.specs.declared.ids.FlowId.{FlowId}
 use Rattle.std.proofs.Common.{ap, inl, inr, refl, subst, sym, ◌∙◌}
 use Rattle.std.proofs.lemmas.Bool.{eq-eqb}
 use Rattle.std.specs.List.{Contains}

@@ -1,5 +1,5 @@
 -- The buffers that ever held an octet, of what is kept of a tape: in order, each with its height.
-use Rattle.flow_gate.specs.declared.ids.FlowId.{FlowId}
+use Rattle.flow_rules.specs.declared.ids.FlowId.{FlowId}
 use Rattle.std.specs.BTreeMap.{BTreeMap, IsOrdered, get}
 use Rattle.std.specs.Ordering.{nat_cmp}
 use Rattle.std.specs.Prelude.{All, List, Option, Some, [], false, if◌then◌else◌, length, true, ℕ, ◌+◌, ◌++◌, ◌==◌, ◌∷◌, ◌≡◌}
@@ -14,7 +14,7 @@ use Rattle.tape_plot.specs.declared.flow.Flow.{Flow}
 use Rattle.tape_plot.specs.declared.flow.Place.{Place}
 use Rattle.tape_plot.specs.declared.highest.Ranked.{Ranked}
 use Rattle.tape_plot.specs.declared.limits.Limits.{Limits}
-use Rattle.flow_gate.specs.declared.ids.BufferId.TheVariants as id
+use Rattle.flow_rules.specs.declared.ids.BufferId.TheVariants as id
 use Rattle.tape_plot.specs.declared.highest.Buffer.TheVariants as buffer
 
 -- a buffer with this limit, if it was ever above 0

@@ -1,7 +1,7 @@
 -- The buffers that a picture shows where none are named: the 40 that were highest against their limits.
 use Rattle.flow_gate.specs.Ids.{same_buffer}
-use Rattle.flow_gate.specs.declared.ids.BufferId.{BufferId}
-use Rattle.flow_gate.specs.declared.ids.FlowId.{FlowId}
+use Rattle.flow_rules.specs.declared.ids.BufferId.{BufferId}
+use Rattle.flow_rules.specs.declared.ids.FlowId.{FlowId}
 use Rattle.std.specs.List.{Contains}
 use Rattle.std.specs.Option.{option_map_or, option_or}
 use Rattle.std.specs.Prelude.{All, Bool, List, None, Option, Some, [], false, if◌then◌else◌, length, max, min, nat_lt, not, true, ℕ, ◌&&◌, ◌*◌, ◌+◌, ◌-◌, ◌/◌, ◌==◌, ◌^◌, ◌||◌, ◌∷◌, ◌≡◌, ◌≤◌, ◌⊎◌}
@@ -11,7 +11,7 @@ use Rattle.tape_plot.specs.Levels.{at, places, written}
 use Rattle.tape_plot.specs.Said.{Said, Sums}
 use Rattle.tape_plot.specs.declared.highest.Buffer.{Buffer}
 use Rattle.tape_plot.specs.declared.height.Height.{Height}
-use Rattle.flow_gate.specs.declared.ids.BufferId.TheVariants as id
+use Rattle.flow_rules.specs.declared.ids.BufferId.TheVariants as id
 use Rattle.tape_plot.specs.declared.highest.Buffer.TheVariants as buffer
 use Rattle.tape_plot.specs.declared.report.Line.TheVariants as line
 

@@ -1,6 +1,6 @@
 -- How many octets lie in the buffers of a tape and what its read-disable counts are, told from the tape alone, which doesn't name
 -- the places of a flow: its notes move octets into one place after the other.
-use Rattle.flow_gate.specs.declared.ids.FlowId.{FlowId}
+use Rattle.flow_rules.specs.declared.ids.FlowId.{FlowId}
 use Rattle.std.specs.Prelude.{Bool, List, None, Option, Some, [], false, get_or, if◌then◌else◌, length, map, min, set, ℕ, ◌&&◌, ◌++◌, ◌+◌, ◌-◌, ◌==◌, ◌||◌, ◌∷◌}
 use Rattle.tape_laws.specs.Connections.{was_closed}
 use Rattle.tape_laws.specs.Dispatches.{is_some_of}

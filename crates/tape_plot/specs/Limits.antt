@@ -1,7 +1,7 @@
 -- The limits that are kept of a summary.
 use Rattle.flow_gate.specs.Ids.{same_buffer}
-use Rattle.flow_gate.specs.declared.ids.BufferId.{BufferId}
-use Rattle.flow_gate.specs.declared.ids.FlowId.{FlowId}
+use Rattle.flow_rules.specs.declared.ids.BufferId.{BufferId}
+use Rattle.flow_rules.specs.declared.ids.FlowId.{FlowId}
 use Rattle.std.specs.Map.{lookup}
 use Rattle.std.specs.Option.{option_map_or, option_or}
 use Rattle.std.specs.Prelude.{List, None, Option, Some, if◌then◌else◌, ℕ, ◌+◌, ◌==◌, ◌≡◌}
@@ -9,7 +9,7 @@ use Rattle.tape_plot.specs.Highest.{limit_named}
 use Rattle.tape_plot.specs.Said.{Said}
 use Rattle.tape_plot.specs.declared.limits.Limits.{Limits}
 use Rattle.tape_plot.specs.declared.report.Line.{Line}
-use Rattle.flow_gate.specs.declared.ids.BufferId.TheVariants as id
+use Rattle.flow_rules.specs.declared.ids.BufferId.TheVariants as id
 use Rattle.tape_plot.specs.declared.report.Line.TheVariants as line
 
 -- 0 where none is told

@@ -1,11 +1,11 @@
 -- The lines of a summary, with their newlines.
-use Rattle.flow_gate.specs.declared.ids.BufferId.{BufferId}
+use Rattle.flow_rules.specs.declared.ids.BufferId.{BufferId}
 use Rattle.flow_notes.specs.Flow.{flow_word}
 use Rattle.std.specs.Fmt.{decimal}
 use Rattle.std.specs.Prelude.{List, [], codes, ℕ, ◌∷◌}
 use Rattle.tape_laws.specs.Report.{paused_line, peak_line, report_line}
 use Rattle.tape_plot.specs.declared.report.Line.{Line}
-use Rattle.flow_gate.specs.declared.ids.BufferId.TheVariants as buffer
+use Rattle.flow_rules.specs.declared.ids.BufferId.TheVariants as buffer
 use Rattle.tape_plot.specs.declared.report.Line.TheVariants as line
 
 -- the words of a buffer in the line of its peak

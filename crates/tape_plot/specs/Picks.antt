@@ -14,7 +14,7 @@ use Rattle.tape_plot.specs.declared.draw.pick.Pick.{Pick}
 use Rattle.tape_plot.specs.declared.height.Height.{Height}
 use Rattle.tape_plot.specs.declared.levels.Levels.{Levels}
 use Rattle.tape_plot.specs.declared.limits.Limits.{Limits}
-use Rattle.flow_gate.specs.declared.ids.BufferId.TheVariants as id
+use Rattle.flow_rules.specs.declared.ids.BufferId.TheVariants as id
 use Rattle.tape_plot.specs.declared.highest.Buffer.TheVariants as buffer
 use Rattle.tape_plot.specs.declared.choice.Lanes.TheVariants as lanes
 

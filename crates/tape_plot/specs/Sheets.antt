@@ -1,5 +1,5 @@
 -- What is drawn on a sheet.
-use Rattle.flow_gate.specs.declared.ids.FlowId.{FlowId}
+use Rattle.flow_rules.specs.declared.ids.FlowId.{FlowId}
 use Rattle.std.specs.List.{Contains}
 use Rattle.std.specs.Prelude.{Bool, List, length, ℕ, ◌<◌, ◌≡◌}
 use Rattle.tape_plot.specs.Flows.{lane_at, lanes_of}
@@ -18,7 +18,7 @@ use Rattle.tape_plot.specs.declared.exchange.Exchange.{Exchange}
 use Rattle.tape_plot.specs.declared.flow.Place.{Place}
 use Rattle.tape_plot.specs.declared.levels.Levels.{Levels}
 use Rattle.tape_plot.specs.declared.limits.Limits.{Limits}
-use Rattle.flow_gate.specs.declared.ids.BufferId.TheVariants as id
+use Rattle.flow_rules.specs.declared.ids.BufferId.TheVariants as id
 use Rattle.tape_plot.specs.declared.highest.Buffer.TheVariants as buffer
 
 -- what is put stays

@@ -1,5 +1,5 @@
 -- What the lanes of a tape stand for, buffer by buffer.
-use Rattle.flow_gate.specs.declared.ids.FlowId.{FlowId}
+use Rattle.flow_rules.specs.declared.ids.FlowId.{FlowId}
 use Rattle.std.specs.BTreeMap.{get}
 use Rattle.std.specs.Ordering.{nat_cmp}
 use Rattle.std.specs.Prelude.{Bool, None, Option, Some, if◌then◌else◌, length, ℕ, ◌≡◌}

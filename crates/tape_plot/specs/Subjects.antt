@@ -1,5 +1,5 @@
 -- What a note is told of, and what it brings into a write buffer.
-use Rattle.flow_gate.specs.declared.ids.FlowId.{FlowId}
+use Rattle.flow_rules.specs.declared.ids.FlowId.{FlowId}
 use Rattle.flow_notes.specs.declared.notes.Note.{Note}
 use Rattle.std.specs.Prelude.{Bool, None, Option, Some, if◌then◌else◌, ℕ, ◌==◌}
 use Rattle.tape_plot.specs.declared.exchange.Fill.{Fill}

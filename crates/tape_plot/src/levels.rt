@@ -1,5 +1,5 @@
 // The lanes of all buffers, kept note by note.
-ghost use Rattle.flow_gate.specs.declared.ids.FlowId.{FlowId};
+ghost use Rattle.flow_rules.specs.declared.ids.FlowId.{FlowId};
 ghost use Rattle.std.specs.Prelude.{◌≡◌, ℕ, length};
 ghost use Rattle.tape_laws.specs.History.{History, NoMark};
 ghost use Rattle.tape_laws.specs.Plain.{plain_setup};

@@ -15,7 +15,7 @@ pub struct Limits {
 
 impl Limits {
     ghost use Rattle.std.specs.Prelude.{◌≡◌, ◌+◌, ◌==◌, [], None, if◌then◌else◌, OnOk};
-    ghost use Rattle.flow_gate.specs.declared.ids.BufferId.TheVariants as id;
+    ghost use Rattle.flow_rules.specs.declared.ids.BufferId.TheVariants as id;
     ghost use Rattle.tape_plot.specs.Limits.{LimitsAre, TellsLimit, limit_at, place_limit_at};
 
     /// None is told. Takes no memory.

@@ -6,7 +6,7 @@ use Rattle.tape_laws.specs.Plain.{plain_setup}
 use Rattle.tape_laws.specs.declared.PlainLimits.{PlainLimits}
 use Rattle.tape_rows.proofs.Tapes.{Whole, begun, eased, limits_10_19, limits_8_10, limits_8_30, moved, noted, octets, paused, q1, q3, write}
 use Rattle.tape_rows.proofs.TwoStreams.{begun_while_above, limits_100_30, pair_ended, pair_named_late, refilling}
-use Rattle.flow_gate.specs.declared.ids.BufferId.TheVariants as buffer
+use Rattle.flow_rules.specs.declared.ids.BufferId.TheVariants as buffer
 use Rattle.flow_rules.specs.declared.causes.Cause.TheVariants as cause
 use Rattle.flow_notes.specs.declared.events.Event.TheVariants as event
 use Rattle.flow_notes.specs.declared.notes.Note.TheVariants as note

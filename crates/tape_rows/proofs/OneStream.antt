@@ -4,7 +4,7 @@ use Rattle.std.specs.Prelude.{[], false, ◌∷◌, ◌≡◌}
 use Rattle.tape_laws.specs.Plain.{plain_setup}
 use Rattle.tape_laws.specs.World.{sent}
 use Rattle.tape_rows.proofs.Tapes.{Whole, begun, eased, limits_0_1, limits_10_19, limits_8_10, limits_8_30, moved, noted, octets, q1, write}
-use Rattle.flow_gate.specs.declared.ids.BufferId.TheVariants as buffer
+use Rattle.flow_rules.specs.declared.ids.BufferId.TheVariants as buffer
 use Rattle.flow_notes.specs.declared.events.Event.TheVariants as event
 use Rattle.flow_notes.specs.declared.notes.Note.TheVariants as note
 use Rattle.flow_notes.specs.declared.events.PlainEvent.TheVariants as plain

@@ -17,7 +17,7 @@ use Rattle.tape_rows.proofs.WireRequests.{config_of_no_route, config_of_whole_ex
 use Rattle.tape_rows.proofs.WireTapes.{Begun, grants_octets, hex, refuses}
 use Rattle.tape_rows.proofs.WireWindows.{config_of_send_window, config_of_two_streams, send_window, two_streams}
 use Rattle.wire_laws.specs.Marks.{NoBlock, Picked, Took}
-use Rattle.flow_gate.specs.declared.ids.BufferId.TheVariants as buffer
+use Rattle.flow_rules.specs.declared.ids.BufferId.TheVariants as buffer
 use Rattle.flow_notes.specs.declared.events.Event.TheVariants as event
 use Rattle.flow_rules.specs.declared.causes.Cause.TheVariants as cause
 use Rattle.flow_notes.specs.declared.notes.CloseCause.TheVariants as closed

@@ -15,7 +15,7 @@ use Rattle.tape_laws.specs.History.{Marked, Noted}
 use Rattle.tape_laws.specs.Units.{Control, HeadOf, Put, Reply}
 use Rattle.tape_rows.proofs.WireTapes.{Lawful, cluster, field, hex, route}
 use Rattle.wire_laws.specs.Marks.{Drains, Fields, NoBlock, Picked, Took, WireHistory}
-use Rattle.flow_gate.specs.declared.ids.BufferId.TheVariants as buffer
+use Rattle.flow_rules.specs.declared.ids.BufferId.TheVariants as buffer
 use Rattle.flow_notes.specs.declared.events.Event.TheVariants as event
 use Rattle.flow_notes.specs.declared.events.Job.TheVariants as job
 use Rattle.flow_rules.specs.declared.causes.Cause.TheVariants as cause

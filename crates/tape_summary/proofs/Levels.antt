@@ -1,7 +1,7 @@
 -- The levels of a plain session's buffers, note by note.
 use Rattle.h2_frames.specs.Head.{data_head}
-use Rattle.flow_gate.specs.declared.ids.BufferId.{BufferId}
-use Rattle.flow_gate.specs.declared.ids.FlowId.{FlowId}
+use Rattle.flow_rules.specs.declared.ids.BufferId.{BufferId}
+use Rattle.flow_rules.specs.declared.ids.FlowId.{FlowId}
 use Rattle.flow_notes.specs.declared.notes.Note.{Note}
 use Rattle.io_ports.specs.declared.octets.NoMemory.{NoMemory}
 use Rattle.tape_summary.proofs.Spots.{flow_is}
@@ -22,7 +22,7 @@ use Rattle.tape_laws.specs.Sources.{is_live}
 use Rattle.tape_laws.specs.Summary.{peak}
 use Rattle.tape_laws.specs.World.{len, out, send}
 use Rattle.tape_laws.specs.declared.PlainLimits.{PlainLimits}
-use Rattle.flow_gate.specs.declared.ids.BufferId.TheVariants as buffer
+use Rattle.flow_rules.specs.declared.ids.BufferId.TheVariants as buffer
 use Rattle.flow_notes.specs.declared.events.Event.TheVariants as event
 use Rattle.flow_notes.specs.declared.notes.Note.TheVariants as note
 

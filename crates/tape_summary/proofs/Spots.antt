@@ -1,6 +1,6 @@
 -- Flows and buffers are told apart by their order, and by whether they are equal, as the laws do.
-use Rattle.flow_gate.specs.declared.ids.BufferId.{BufferId}
-use Rattle.flow_gate.specs.declared.ids.FlowId.{FlowId}
+use Rattle.flow_rules.specs.declared.ids.BufferId.{BufferId}
+use Rattle.flow_rules.specs.declared.ids.FlowId.{FlowId}
 use Rattle.tape_summary.specs.Placing.{spot_cmp}
 use Rattle.tape_summary.specs.declared.pauses.Spot.{Spot}
 use Rattle.std.proofs.Common.{ap, arith, refl, ◌∙◌}
@@ -11,11 +11,11 @@ use Rattle.std.specs.Prelude.{Bool, false, if◌then◌else◌, not, true, ℕ, 
 use Rattle.std.specs.declared.cmp.Ordering.{Ordering}
 use Rattle.std.specs.declared.cmp.Ordering.TheVariants.{Equal, Greater, Less}
 use Rattle.tape_laws.specs.Flows.{same_buffer, same_flow}
-use Rattle.flow_gate.specs.declared.ids.BufferId.TheVariants as buffer
-use Rattle.flow_gate.specs.contracts.ids.BufferIdOrd.TheImpl as buffer_ord
-use Rattle.flow_gate.specs.contracts.ids.BufferIdPartialEq.TheImpl as buffer_eq
-use Rattle.flow_gate.specs.contracts.ids.FlowIdOrd.TheImpl as flow_ord
-use Rattle.flow_gate.specs.contracts.ids.FlowIdPartialEq.TheImpl as flow_eq
+use Rattle.flow_rules.specs.declared.ids.BufferId.TheVariants as buffer
+use Rattle.flow_rules.specs.contracts.ids.BufferIdOrd.TheImpl as buffer_ord
+use Rattle.flow_rules.specs.contracts.ids.BufferIdPartialEq.TheImpl as buffer_eq
+use Rattle.flow_rules.specs.contracts.ids.FlowIdOrd.TheImpl as flow_ord
+use Rattle.flow_rules.specs.contracts.ids.FlowIdPartialEq.TheImpl as flow_eq
 use Rattle.tape_summary.specs.contracts.pauses.SpotPartialEq.TheImpl as spot_eq
 
 -- ---- the orders tell flows and buffers apart as the laws do

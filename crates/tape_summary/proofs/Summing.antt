@@ -2,7 +2,7 @@
 use Rattle.flow_notes.specs.Flow.{flow_word}
 use Rattle.flow_notes.specs.Line.{newline, spaced}
 use Rattle.flow_notes.specs.Buffer.{buffer_words}
-use Rattle.flow_gate.specs.declared.ids.BufferId.{BufferId}
+use Rattle.flow_rules.specs.declared.ids.BufferId.{BufferId}
 use Rattle.io_ports.specs.declared.octets.NoMemory.{NoMemory}
 use Rattle.tape_summary.specs.Pausing.{LogIs, told_pause}
 use Rattle.tape_summary.specs.Peaking.{PeaksAre, levels_of}
@@ -28,7 +28,7 @@ use Rattle.tape_laws.specs.Plain.{plain_setup}
 use Rattle.tape_laws.specs.Report.{flow_peaks, paused_line, peak_line, report_line, until_word, write_peak}
 use Rattle.tape_laws.specs.Summary.{Paused, all_flows, paused_lines, peak}
 use Rattle.tape_laws.specs.declared.PlainLimits.{PlainLimits}
-use Rattle.flow_gate.specs.declared.ids.BufferId.TheVariants as buffer
+use Rattle.flow_rules.specs.declared.ids.BufferId.TheVariants as buffer
 
 -- ---- pauses
 

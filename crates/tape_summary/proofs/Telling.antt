@@ -1,6 +1,6 @@
 -- A text of notes, passage by passage.
-use Rattle.flow_gate.specs.declared.ids.BufferId.{BufferId}
-use Rattle.flow_gate.specs.declared.ids.FlowId.{FlowId}
+use Rattle.flow_rules.specs.declared.ids.BufferId.{BufferId}
+use Rattle.flow_rules.specs.declared.ids.FlowId.{FlowId}
 use Rattle.flow_notes.specs.Buffer.{buffer_words}
 use Rattle.flow_notes.specs.Flow.{flow_word}
 use Rattle.flow_notes.specs.Line.{newline, spaced}
@@ -16,7 +16,7 @@ use Rattle.std.specs.List.{AllByRecursion, flat_map}
 use Rattle.io_ports.specs.declared.octets.NoMemory.{NoMemory}
 use Rattle.std.specs.Prelude.{Err, List, Ok, OnOk, Result, [], codes, map, ℕ, ◌++◌, ◌∷◌, ◌≡◌}
 use Rattle.tape_laws.specs.Text.{note_line}
-use Rattle.flow_gate.specs.declared.ids.BufferId.TheVariants as buffer
+use Rattle.flow_rules.specs.declared.ids.BufferId.TheVariants as buffer
 use Rattle.flow_notes.specs.declared.notes.Note.TheVariants as note
 
 text_joined : (names : List (List ℕ)) (ms ns : List Note) → notes_text names (ms ++ ns) ≡ notes_text names ms ++ notes_text names ns

@@ -1,5 +1,5 @@
 -- How much the buffers of a plain session hold, and the most that they ever held.
-use Rattle.flow_gate.specs.declared.ids.BufferId.{BufferId}
+use Rattle.flow_rules.specs.declared.ids.BufferId.{BufferId}
 use Rattle.flow_notes.specs.declared.notes.Note.{Note}
 use Rattle.tape_summary.specs.declared.level.Level.{Level}
 use Rattle.std.specs.Prelude.{if◌then◌else◌, max, ℕ, ◌+◌, ◌-◌, ◌==◌, ◌∷◌, ◌≡◌}
@@ -9,7 +9,7 @@ use Rattle.tape_laws.specs.PlainTape.{IsPlainLawful}
 use Rattle.tape_laws.specs.Summary.{peak}
 use Rattle.tape_laws.specs.World.{len}
 use Rattle.tape_laws.specs.declared.PlainLimits.{PlainLimits}
-use Rattle.flow_gate.specs.declared.ids.BufferId.TheVariants as buffer
+use Rattle.flow_rules.specs.declared.ids.BufferId.TheVariants as buffer
 
 -- the level of a buffer after a history
 abbrev pub level_of : PlainLimits → BufferId → History NoMark → Level

@@ -15,7 +15,7 @@ use Rattle.tcp_relay.specs.Board.{Board, IsSeenAs, put}
 use Rattle.tcp_relay.specs.Lines.{added, dropped, fed, feeds_of, holding}
 use Rattle.tcp_relay.specs.Stands.{line_if, line_of, tape_board}
 use Rattle.wm_buffer.specs.Watermark.{above_after}
-use Rattle.flow_gate.specs.declared.ids.BufferId.TheVariants as buffer
+use Rattle.flow_rules.specs.declared.ids.BufferId.TheVariants as buffer
 use Rattle.flow_notes.specs.declared.notes.CloseCause.TheVariants as closed
 use Rattle.flow_notes.specs.declared.notes.Note.TheVariants as note
 

@@ -1,6 +1,6 @@
 -- At the end of each dispatch the flow to a connection in a live pair was paused once more than resumed where its write
 -- buffer is above, and else as often.
-use Rattle.flow_gate.specs.declared.ids.FlowId.{FlowId}
+use Rattle.flow_rules.specs.declared.ids.FlowId.{FlowId}
 use Rattle.relay_laws.specs.Lawful.{EachPaired}
 use Rattle.relay_laws.specs.Pairs.{Tape, feed, goes_to, opposite, pairs}
 use Rattle.relay_laws.specs.Sound.{IsPaired, IsSound}
@@ -20,7 +20,7 @@ use Rattle.tcp_relay.proofs.Flags.{above_less, above_same}
 use Rattle.tcp_relay.proofs.Shapes.{pause_if, resume_if}
 use Rattle.tcp_relay.proofs.Tests.{and_left, and_right, by_case, for_some, if_some, no_some, not_both, number_is, same_number}
 use Rattle.wm_buffer.specs.Watermark.{above_after}
-use Rattle.flow_gate.specs.declared.ids.BufferId.TheVariants as buffer
+use Rattle.flow_rules.specs.declared.ids.BufferId.TheVariants as buffer
 use Rattle.flow_notes.specs.declared.notes.Note.TheVariants as note
 
 abbrev pub one_if : Bool → ℕ

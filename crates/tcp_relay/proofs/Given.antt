@@ -1,5 +1,5 @@
 -- Each note of a session's tape stands where its dispatch's event gives it, and nowhere else.
-use Rattle.flow_gate.specs.declared.ids.FlowId.{FlowId}
+use Rattle.flow_rules.specs.declared.ids.FlowId.{FlowId}
 use Rattle.flow_notes.specs.declared.events.Event.{Event}
 use Rattle.flow_notes.specs.declared.notes.Note.{Note}
 use Rattle.relay_laws.specs.Dispatch.{behind, dispatch_notes, paused_by, resumed_by, spread}
@@ -21,7 +21,7 @@ use Rattle.tcp_relay.proofs.Boards.{onto_append}
 use Rattle.tcp_relay.proofs.Dooms.{leaves_doomed}
 use Rattle.tcp_relay.proofs.Sessions.{known}
 use Rattle.tcp_relay.proofs.Tests.{if_some, is_below}
-use Rattle.flow_gate.specs.declared.ids.BufferId.TheVariants as buffer
+use Rattle.flow_rules.specs.declared.ids.BufferId.TheVariants as buffer
 use Rattle.flow_notes.specs.declared.events.Event.TheVariants as event
 use Rattle.flow_notes.specs.declared.notes.CloseCause.TheVariants as closed
 use Rattle.flow_notes.specs.declared.notes.Note.TheVariants as note

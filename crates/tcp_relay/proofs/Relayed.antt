@@ -25,7 +25,7 @@ use Rattle.tcp_relay.proofs.Shapes.{close_if, leaves_none, leaves_some, loses_al
 use Rattle.tcp_relay.proofs.SoundTurns.{after, gone_turn, turned}
 use Rattle.tcp_relay.proofs.Sounds.{feed_c, feed_d, feed_other, left_feed, new_before}
 use Rattle.tcp_relay.proofs.Tests.{and_right, by_case, by_option, differs_above, for_some, if_some, no_some, not_both, number_is, same_number}
-use Rattle.flow_gate.specs.declared.ids.BufferId.TheVariants as buffer
+use Rattle.flow_rules.specs.declared.ids.BufferId.TheVariants as buffer
 use Rattle.flow_notes.specs.declared.events.Event.TheVariants as event
 use Rattle.flow_rules.specs.declared.causes.Cause.TheVariants as cause
 use Rattle.flow_notes.specs.declared.notes.CloseCause.TheVariants as closed

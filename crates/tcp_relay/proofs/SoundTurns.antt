@@ -18,7 +18,7 @@ use Rattle.tcp_relay.proofs.Lists.{not_in}
 use Rattle.tcp_relay.proofs.Shapes.{close_if, leaves_none, leaves_some, loses_alone, loses_nothing, loses_pair, low, pairs_two, pause_if, reads_nothing, reads_some, refuses, resume_if, rose, turn_of}
 use Rattle.tcp_relay.proofs.Sounds.{sound_accept, sound_arrive, sound_close, sound_doom, sound_join, sound_kept, sound_out, sound_start}
 use Rattle.tcp_relay.proofs.Tests.{and_left, and_right, by_case, by_option, differs_above, if_some, if_true, not_both, same_number}
-use Rattle.flow_gate.specs.declared.ids.BufferId.TheVariants as buffer
+use Rattle.flow_rules.specs.declared.ids.BufferId.TheVariants as buffer
 use Rattle.flow_notes.specs.declared.events.Event.TheVariants as event
 use Rattle.flow_notes.specs.declared.events.PlainEvent.{PlainEvent}
 use Rattle.flow_notes.specs.declared.events.Job.{Job}

@@ -1,5 +1,5 @@
 -- What each note leaves true of a tape's connections.
-use Rattle.flow_gate.specs.declared.ids.FlowId.{FlowId}
+use Rattle.flow_rules.specs.declared.ids.FlowId.{FlowId}
 use Rattle.flow_rules.specs.declared.causes.Cause.{Cause}
 use Rattle.flow_notes.specs.declared.notes.CloseCause.{CloseCause}
 use Rattle.relay_laws.specs.Order.{is_new, named}

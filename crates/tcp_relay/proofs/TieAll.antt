@@ -4,7 +4,7 @@ use Rattle.flow_notes.specs.declared.events.Event.{Event}
 use Rattle.flow_notes.specs.declared.events.Job.{Job}
 use Rattle.flow_notes.specs.declared.events.PlainEvent.{PlainEvent}
 use Rattle.flow_notes.specs.declared.notes.Note.{Note}
-use Rattle.flow_gate.specs.declared.ids.FlowId.{FlowId}
+use Rattle.flow_rules.specs.declared.ids.FlowId.{FlowId}
 use Rattle.relay_laws.specs.Dispatch.{dispatch_notes}
 use Rattle.relay_laws.specs.Order.{may_come}
 use Rattle.relay_laws.specs.Pairs.{Tape}

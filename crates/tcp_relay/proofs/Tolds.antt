@@ -1,6 +1,6 @@
 -- Note by note: the flow to a connection in a live pair is paused as often as its write buffer rose since the pair's start, and
 -- resumed as often as that drained, once it was told.
-use Rattle.flow_gate.specs.declared.ids.FlowId.{FlowId}
+use Rattle.flow_rules.specs.declared.ids.FlowId.{FlowId}
 use Rattle.flow_notes.specs.declared.events.Event.{Event}
 use Rattle.flow_notes.specs.declared.notes.Note.{Note}
 use Rattle.relay_laws.specs.Lawful.{ArePaused, AreResumed, IsPaused}
@@ -25,7 +25,7 @@ use Rattle.tcp_relay.proofs.Shapes.{close_if, pause_if, resume_if}
 use Rattle.tcp_relay.proofs.Sounds.{left_feed}
 use Rattle.tcp_relay.proofs.Tests.{by_case, for_some, if_some, no_some, number_is, same_number}
 use Rattle.wm_buffer.specs.Watermark.{above_after}
-use Rattle.flow_gate.specs.declared.ids.BufferId.TheVariants as buffer
+use Rattle.flow_rules.specs.declared.ids.BufferId.TheVariants as buffer
 use Rattle.flow_rules.specs.declared.causes.Cause.TheVariants as cause
 use Rattle.flow_notes.specs.declared.notes.CloseCause.TheVariants as closed
 use Rattle.flow_notes.specs.declared.notes.Note.TheVariants as note

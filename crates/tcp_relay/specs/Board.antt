@@ -1,5 +1,5 @@
 -- What is seen of all connections of a relay, and what each event does to that.
-use Rattle.flow_gate.specs.declared.ids.FlowId.{FlowId}
+use Rattle.flow_rules.specs.declared.ids.FlowId.{FlowId}
 use Rattle.flow_notes.specs.declared.events.Event.{Event}
 use Rattle.relay_laws.specs.Pairs.{opposite}
 use Rattle.relay_laws.specs.declared.Feed.{Feed}

@@ -13,7 +13,7 @@ use Rattle.exchange_core.specs.declared.causes.Doomed.{Doomed}
 use Rattle.flow_rules.specs.declared.causes.Cause.{Cause}
 use Rattle.flow_rules.specs.declared.unit.Unit.TheVariants.{Head}
 use Rattle.hpack_codec.specs.declared.fields.Field.{Field}
-use Rattle.flow_gate.specs.declared.ids.FlowId.{FlowId}
+use Rattle.flow_rules.specs.declared.ids.FlowId.{FlowId}
 use Rattle.io_ports.specs.declared.octets.NoMemory.{NoMemory}
 use Rattle.std.proofs.Common.{ap, arith, refl, subst, sym, ◌∙◌}
 use Rattle.std.proofs.lemmas.Option.{none-some, same_Some}

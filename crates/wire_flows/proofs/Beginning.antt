@@ -9,8 +9,8 @@ use Rattle.flow_gate.proofs.Counting.{count-cons}
 use Rattle.flow_gate.proofs.SameIds.{same_flow-refl, same_flow_exact}
 use Rattle.flow_gate.specs.Board.{Board, IsSound as AreSoundGates, is_known, is_marked, is_open, pending_on, times, watched_by, watchers_of}
 use Rattle.flow_gate.specs.Ids.{is_own, same_flow}
-use Rattle.flow_gate.specs.declared.ids.BufferId.{BufferId}
-use Rattle.flow_gate.specs.declared.ids.FlowId.{FlowId}
+use Rattle.flow_rules.specs.declared.ids.BufferId.{BufferId}
+use Rattle.flow_rules.specs.declared.ids.FlowId.{FlowId}
 use Rattle.proxy_config.specs.declared.config.Config.{Config}
 use Rattle.proxy_config.specs.declared.routes.Filter.{Filter}
 use Rattle.std.proofs.Common.{Less, ap, arith, refl, subst, sym, ◌∙◌}
@@ -37,7 +37,7 @@ use Rattle.wire_flows.specs.Flows.{Flows, KeepsLeft, flow_in, goes_to, is_there,
 use Rattle.wire_flows.specs.Measure.{all_of, low_of, lows_of, to_go, way}
 use Rattle.wire_flows.specs.Sound.{AreInOrder, IsSound, IsWhole, MarksAre, turn_cmp, turn_of}
 use Rattle.wire_flows.specs.Writes.{KeepsLows, KeepsWrites, lows_on}
-use Rattle.flow_gate.specs.declared.ids.BufferId.TheVariants as buffer
+use Rattle.flow_rules.specs.declared.ids.BufferId.TheVariants as buffer
 
 -- ---- lists in order
 module _ (f : FlowId) where

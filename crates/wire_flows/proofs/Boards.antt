@@ -2,8 +2,8 @@
 use Rattle.flow_gate.specs.Board.{Board, BufferState, is_known, is_marked, pending_on, watchers_of}
 use Rattle.flow_gate.specs.Changes.{Closes, Drains, Knows, Rises, Tells}
 use Rattle.flow_gate.specs.Ids.{same_buffer}
-use Rattle.flow_gate.specs.declared.ids.BufferId.{BufferId}
-use Rattle.flow_gate.specs.declared.ids.FlowId.{FlowId}
+use Rattle.flow_rules.specs.declared.ids.BufferId.{BufferId}
+use Rattle.flow_rules.specs.declared.ids.FlowId.{FlowId}
 use Rattle.std.proofs.Common.{ap, refl, sym, ◌∙◌}
 use Rattle.std.proofs.lemmas.List.{append-nil}
 use Rattle.std.proofs.lemmas.Option.{none-some}
@@ -13,7 +13,7 @@ use Rattle.std.specs.Prelude.{Bool, IsNone, List, None, Option, Some, [], drop, 
 use Rattle.wire_flows.proofs.Cases.{by_case, not_both, number_is, same_number}
 use Rattle.wire_flows.specs.Flows.{Flows}
 use Rattle.wire_flows.specs.Writes.{ChangesWrite, KeepsWrites, Write, lowered, new_write, raised, told, write_at}
-use Rattle.flow_gate.specs.declared.ids.BufferId.TheVariants as buffer
+use Rattle.flow_rules.specs.declared.ids.BufferId.TheVariants as buffer
 
 abbrev pub write_of : Bool → Bool → List FlowId → Option Write
 write_of known above lows = if known then Some (record { above = above; lows = lows }) else None

@@ -10,8 +10,8 @@ use Rattle.filter_chain.specs.declared.stage.StageKind.{StageKind}
 use Rattle.filter_chain.specs.declared.stage.StageKind.TheVariants as stage
 use Rattle.flow_gate.proofs.SameIds.{same_flow-refl}
 use Rattle.flow_gate.specs.Board.{is_known, is_marked, watchers_of}
-use Rattle.flow_gate.specs.declared.ids.BufferId.{BufferId}
-use Rattle.flow_gate.specs.declared.ids.FlowId.{FlowId}
+use Rattle.flow_rules.specs.declared.ids.BufferId.{BufferId}
+use Rattle.flow_rules.specs.declared.ids.FlowId.{FlowId}
 use Rattle.std.proofs.Common.{ap, arith, refl, subst, sym, ◌∙◌}
 use Rattle.std.specs.Option.{option_map_or}
 use Rattle.std.specs.Prelude.{Bool, IfSome, List, Option, Some, [], false, not, set, slice_get, suc, true, zero, ℕ, ◌&&◌, ◌+◌, ◌-◌, ◌<◌, ◌^◌, ◌∷◌, ◌≡◌, ◌≤◌}
@@ -27,7 +27,7 @@ use Rattle.wire_flows.specs.Flows.{Flows, flow_in, goes_to}
 use Rattle.wire_flows.specs.Moves.{MayCross, buffer_at, is_high, is_low}
 use Rattle.wire_flows.specs.Sound.{IsSound, MarksAre, buffer_of}
 use Rattle.wm_buffer.specs.declared.buffer.Shifted.{Shifted}
-use Rattle.flow_gate.specs.declared.ids.BufferId.TheVariants as buffer
+use Rattle.flow_rules.specs.declared.ids.BufferId.TheVariants as buffer
 
 second : (a b : Bool) → (not a && b) ≡ true → b ≡ true
 second true b e = cc

@@ -3,8 +3,8 @@ use Rattle.flow_gate.proofs.SameIds.{same_buffer-refl, same_buffer_exact}
 use Rattle.flow_gate.specs.Board.{Board, IsSound as AreSoundGates, is_known, is_marked, is_open, pending_on, watched_by, watchers_of}
 use Rattle.flow_gate.specs.Changes.{Drains, Rises, Same, Tells}
 use Rattle.flow_gate.specs.Ids.{is_own, same_buffer, same_flow}
-use Rattle.flow_gate.specs.declared.ids.BufferId.{BufferId}
-use Rattle.flow_gate.specs.declared.ids.FlowId.{FlowId}
+use Rattle.flow_rules.specs.declared.ids.BufferId.{BufferId}
+use Rattle.flow_rules.specs.declared.ids.FlowId.{FlowId}
 use Rattle.std.proofs.Common.{ap, arith, refl, subst, sym, ◌∙◌}
 use Rattle.std.proofs.lemmas.List.{append-nil}
 use Rattle.std.specs.Prelude.{Bool, IsNone, List, None, Option, Some, [], drop, false, if◌then◌else◌, length, not, option_to_list, slice_get, true, ℕ, ◌&&◌, ◌++◌, ◌+◌, ◌==◌, ◌||◌, ◌∷◌, ◌≡◌, ◌≤◌, ◌↔◌}
@@ -14,7 +14,7 @@ use Rattle.wire_flows.specs.Begins.{Crosses, DrainsIf, DrainsTo, RisesIf}
 use Rattle.wm_buffer.specs.Watermark.{crossing}
 use Rattle.wm_buffer.specs.declared.watermark.Crossed.{Crossed}
 use Rattle.wire_flows.specs.Moves.{is_high, is_low}
-use Rattle.flow_gate.specs.declared.ids.BufferId.TheVariants as buffer
+use Rattle.flow_rules.specs.declared.ids.BufferId.TheVariants as buffer
 use Rattle.wm_buffer.specs.declared.watermark.Crossed.TheVariants as crossed
 
 pub high_of : (a b : Bool) → is_high (crossing a b) ≡ (not a && b)

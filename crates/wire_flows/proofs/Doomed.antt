@@ -9,8 +9,8 @@ use Rattle.flow_gate.proofs.Sound.{times-without}
 use Rattle.flow_gate.specs.Board.{Board, IsSound as AreSoundGates, is_known, is_marked, is_open, pending_on, times, watched_by, watchers_of}
 use Rattle.flow_gate.specs.Changes.{Forgets, goes_with, without}
 use Rattle.flow_gate.specs.Ids.{is_own, same_flow}
-use Rattle.flow_gate.specs.declared.ids.BufferId.{BufferId}
-use Rattle.flow_gate.specs.declared.ids.FlowId.{FlowId}
+use Rattle.flow_rules.specs.declared.ids.BufferId.{BufferId}
+use Rattle.flow_rules.specs.declared.ids.FlowId.{FlowId}
 use Rattle.std.proofs.Common.{ap, arith, refl, subst, sym, ◌∙◌}
 use Rattle.std.proofs.lemmas.List.Kept.{IsStrictlySortedBy-filter}
 use Rattle.std.proofs.lemmas.Option.{none-some}
@@ -27,7 +27,7 @@ use Rattle.wire_flows.specs.Flows.{Flows, flow_in, goes_to, is_there, left_in, w
 use Rattle.wire_flows.specs.Measure.{all_of, low_of, lows_of, to_go, way}
 use Rattle.wire_flows.specs.Sound.{AreInOrder, IsSound, IsWhole, MarksAre, turn_cmp}
 use Rattle.wire_flows.specs.Writes.{LeavesLows, LeavesWrites, left_by, lows_on, write_at}
-use Rattle.flow_gate.specs.declared.ids.BufferId.TheVariants as buffer
+use Rattle.flow_rules.specs.declared.ids.BufferId.TheVariants as buffer
 
 -- what was forgotten of both flows
 pub record Gone (x : ℕ) (old new : Board) : Type 0 where

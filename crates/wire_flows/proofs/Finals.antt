@@ -7,8 +7,8 @@ use Rattle.exchange_core.specs.Units.{next_unit}
 use Rattle.exchange_core.specs.State.{ungated}
 use Rattle.flow_gate.specs.Board.{Board, IsSound as AreSoundGates, is_known, is_marked, pending_on, times, watchers_of}
 use Rattle.flow_gate.specs.Changes.{Drains, IsEmpty as IsEmptyBoard, Knows, Tells}
-use Rattle.flow_gate.specs.declared.ids.BufferId.{BufferId}
-use Rattle.flow_gate.specs.declared.ids.FlowId.{FlowId}
+use Rattle.flow_rules.specs.declared.ids.BufferId.{BufferId}
+use Rattle.flow_rules.specs.declared.ids.FlowId.{FlowId}
 use Rattle.flow_rules.specs.Narrowed.{octets_of}
 use Rattle.flow_rules.specs.State.{FlowState, send_len}
 use Rattle.flow_rules.specs.Units.{carried, carries_end, ends_after, head_may_go, next_unit as first_unit}
@@ -35,7 +35,7 @@ use Rattle.wire_flows.specs.Measure.{to_go}
 use Rattle.wire_flows.specs.Moves.{buffer_at}
 use Rattle.wire_flows.specs.Sound.{IsSound, IsWhole, MarksAre, turn_cmp}
 use Rattle.wire_flows.specs.Writes.{ChangesWrite, new_write, raised, write_at}
-use Rattle.flow_gate.specs.declared.ids.BufferId.TheVariants as buffer
+use Rattle.flow_rules.specs.declared.ids.BufferId.TheVariants as buffer
 
 -- ---- nothing yet
 no_exchange : (ex : Exchanges) (x : ℕ) → ex.live ≡ [] → exchange_at ex x ≡ None

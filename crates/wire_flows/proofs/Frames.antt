@@ -10,8 +10,8 @@ use Rattle.filter_chain.specs.Place.{Place, beyond, is_source, kind_of, losing}
 use Rattle.filter_chain.specs.declared.stage.StageKind.TheVariants.{Send}
 use Rattle.flow_gate.specs.Board.{Board, is_marked}
 use Rattle.flow_gate.specs.Ids.{is_own, same_buffer}
-use Rattle.flow_gate.specs.declared.ids.BufferId.{BufferId}
-use Rattle.flow_gate.specs.declared.ids.FlowId.{FlowId}
+use Rattle.flow_rules.specs.declared.ids.BufferId.{BufferId}
+use Rattle.flow_rules.specs.declared.ids.FlowId.{FlowId}
 use Rattle.flow_rules.specs.Kinds.{Kind}
 use Rattle.std.proofs.Common.{ap, arith, refl, subst, sym, ◌∙◌}
 use Rattle.std.proofs.lemmas.List.{length-drop}
@@ -27,7 +27,7 @@ use Rattle.wire_flows.proofs.Marks.{Marked, marked_by, marking, set_marked}
 use Rattle.wire_flows.proofs.Places.{all_get, all_set, kinds_set, lost_way}
 use Rattle.wire_flows.specs.Measure.{flow_way, forty_if, message_way, places_way}
 use Rattle.wire_flows.specs.Sound.{IsBounded, IsWireFlow, IsWithin, MarksAre, buffer_of}
-use Rattle.flow_gate.specs.declared.ids.BufferId.TheVariants as buffer
+use Rattle.flow_rules.specs.declared.ids.BufferId.TheVariants as buffer
 
 -- ---- the last place
 pub record LastIs (places : List Place) : Type 0 where

@@ -12,8 +12,8 @@ use Rattle.filter_chain.specs.Place.{IsPlace, Place, is_source, kind_of, losing}
 use Rattle.flow_gate.proofs.SameIds.{same_buffer-refl, same_buffer_exact, same_flow-refl, same_flow_exact}
 use Rattle.flow_gate.specs.Board.{Board, IsSound as AreSoundGates, is_known, is_marked, pending_on, watchers_of}
 use Rattle.flow_gate.specs.Ids.{is_own, same_buffer, same_flow}
-use Rattle.flow_gate.specs.declared.ids.BufferId.{BufferId}
-use Rattle.flow_gate.specs.declared.ids.FlowId.{FlowId}
+use Rattle.flow_rules.specs.declared.ids.BufferId.{BufferId}
+use Rattle.flow_rules.specs.declared.ids.FlowId.{FlowId}
 use Rattle.flow_rules.specs.Narrowed.{octets_of}
 use Rattle.flow_rules.specs.State.{FlowState}
 use Rattle.flow_rules.specs.Units.{carried, carries_end, ends_after, head_may_go, next_unit as first_unit}
@@ -57,7 +57,7 @@ use Rattle.wire_flows.specs.Writes.{ChangesWrite, Write, raised, write_at}
 use Rattle.wire_flows.specs.declared.framing.Framed.{Framed}
 use Rattle.wm_buffer.specs.Watermark.{crossing}
 use Rattle.wm_buffer.specs.declared.watermark.Crossed.{Crossed}
-use Rattle.flow_gate.specs.declared.ids.BufferId.TheVariants as buffer
+use Rattle.flow_rules.specs.declared.ids.BufferId.TheVariants as buffer
 use borrow.Author.Differences.{down, up}
 
 -- ---- a frame without octets carries an end that wasn't framed

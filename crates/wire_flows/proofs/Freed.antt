@@ -8,7 +8,7 @@ use Rattle.filter_chain.specs.Place.{IsPlace, Place, is_source, kind_of}
 use Rattle.filter_chain.specs.declared.stage.StageKind.{StageKind}
 use Rattle.filter_chain.specs.declared.stage.StageKind.TheVariants as stage
 use Rattle.flow_gate.specs.Board.{Board, count, is_marked}
-use Rattle.flow_gate.specs.declared.ids.FlowId.{FlowId}
+use Rattle.flow_rules.specs.declared.ids.FlowId.{FlowId}
 use Rattle.flow_rules.specs.Kinds.{Hold, Kind, Meter, Send, let_go}
 use Rattle.flow_rules.specs.Sources.{source_of}
 use Rattle.flow_rules.specs.State.{is_whole_at, kind_at}

@@ -5,7 +5,7 @@ use Rattle.exchange_core.specs.Exchanges.{Exchanges, IsSound as AreSoundExchange
 use Rattle.exchange_core.specs.Flow.{Flow}
 use Rattle.exchange_core.specs.declared.exchange.Exchange.{Exchange}
 use Rattle.flow_gate.specs.Board.{Board, pending_on, times}
-use Rattle.flow_gate.specs.declared.ids.FlowId.{FlowId}
+use Rattle.flow_rules.specs.declared.ids.FlowId.{FlowId}
 use Rattle.std.proofs.Common.{ap, arith, refl, sym, ◌∙◌}
 use Rattle.std.proofs.lemmas.Option.{none-some, same_Some}
 use Rattle.std.specs.Option.{option_and_then, option_map_or}
@@ -16,7 +16,7 @@ use Rattle.wire_flows.proofs.Sums.{changed_sum}
 use Rattle.wire_flows.specs.Flows.{Flows, flow_in, goes_to}
 use Rattle.wire_flows.specs.Measure.{all_of, flow_way, low_of, lows_of, to_go, way}
 use Rattle.wire_flows.specs.Writes.{lows_on}
-use Rattle.flow_gate.specs.declared.ids.BufferId.TheVariants as buffer
+use Rattle.flow_rules.specs.declared.ids.BufferId.TheVariants as buffer
 
 -- what an exchange has to go, 0 where it isn't live
 abbrev pub all_at : Flows → ℕ → ℕ

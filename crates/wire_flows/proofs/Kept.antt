@@ -10,8 +10,8 @@ use Rattle.flow_gate.proofs.SameIds.{same_flow-refl, same_flow_exact}
 use Rattle.flow_gate.specs.Board.{Board, IsSound as AreSoundGates, is_known, is_marked, is_open, pending_on, watched_by, watchers_of}
 use Rattle.flow_gate.specs.Changes.{Same}
 use Rattle.flow_gate.specs.Ids.{is_own, same_flow}
-use Rattle.flow_gate.specs.declared.ids.BufferId.{BufferId}
-use Rattle.flow_gate.specs.declared.ids.FlowId.{FlowId}
+use Rattle.flow_rules.specs.declared.ids.BufferId.{BufferId}
+use Rattle.flow_rules.specs.declared.ids.FlowId.{FlowId}
 use Rattle.flow_rules.specs.Kinds.{Hold, Kind, Meter, Send}
 use Rattle.flow_rules.specs.Sources.{sources_from as in_order, write_source}
 use Rattle.std.proofs.Common.{ap, refl, subst, sym, ◌∙◌}
@@ -21,7 +21,7 @@ use Rattle.wire_flows.proofs.Cases.{by_case, if_found, if_mapped, number_is, som
 use Rattle.wire_flows.proofs.Found.{at_other, at_same, flow_after, live_after, name_is, target_after, there_after}
 use Rattle.wire_flows.specs.Flows.{Flows, KeepsLeft, KeepsLive, flow_in, goes_to, left_in, watches_in, watches_of}
 use Rattle.wire_flows.specs.Sound.{AreInOrder, IsSound, IsWhole, IsWireFlow, MarksAre, buffer_of}
-use Rattle.flow_gate.specs.declared.ids.BufferId.TheVariants as buffer
+use Rattle.flow_rules.specs.declared.ids.BufferId.TheVariants as buffer
 
 abbrev pub kinds_of : Flow → List Kind
 kinds_of flow = map (λ place. kind_of place.kind) flow.chain.places

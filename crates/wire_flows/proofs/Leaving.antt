@@ -10,8 +10,8 @@ use Rattle.exchange_core.specs.declared.step.Step.TheVariants as step
 use Rattle.flow_gate.proofs.SameIds.{same_buffer-comm, same_flow-refl}
 use Rattle.flow_gate.specs.Board.{Board, IsSound as AreSoundGates, is_marked, pending_on, watchers_of}
 use Rattle.flow_gate.specs.Ids.{is_own, same_buffer, same_flow}
-use Rattle.flow_gate.specs.declared.ids.BufferId.{BufferId}
-use Rattle.flow_gate.specs.declared.ids.FlowId.{FlowId}
+use Rattle.flow_rules.specs.declared.ids.BufferId.{BufferId}
+use Rattle.flow_rules.specs.declared.ids.FlowId.{FlowId}
 use Rattle.flow_rules.specs.Pausing.{CanPause}
 use Rattle.std.proofs.Common.{ap, arith, refl, subst, sym, ◌∙◌}
 use Rattle.std.proofs.lemmas.Option.{same_Some}
@@ -34,7 +34,7 @@ use Rattle.wire_flows.specs.Sound.{IsSound, MarksAre}
 use Rattle.wire_flows.specs.Writes.{KeepsWrites}
 use Rattle.wire_flows.specs.declared.moving.Outcome.{Outcome}
 use Rattle.wm_buffer.specs.declared.buffer.Shifted.{Shifted}
-use Rattle.flow_gate.specs.declared.ids.BufferId.TheVariants as buffer
+use Rattle.flow_rules.specs.declared.ids.BufferId.TheVariants as buffer
 
 -- all that a step leaves
 pub record Leaves (f : FlowId) (o : Outcome) (old new : Flows) : Type 0 where

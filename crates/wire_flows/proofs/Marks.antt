@@ -7,8 +7,8 @@ use Rattle.filter_chain.specs.declared.stage.StageKind.{StageKind}
 use Rattle.filter_chain.specs.declared.stage.StageKind.TheVariants as stage
 use Rattle.flow_gate.proofs.SameIds.{same_buffer-refl, same_flow-refl}
 use Rattle.flow_gate.specs.Ids.{same_buffer, same_flow}
-use Rattle.flow_gate.specs.declared.ids.BufferId.{BufferId}
-use Rattle.flow_gate.specs.declared.ids.FlowId.{FlowId}
+use Rattle.flow_rules.specs.declared.ids.BufferId.{BufferId}
+use Rattle.flow_rules.specs.declared.ids.FlowId.{FlowId}
 use Rattle.flow_rules.specs.Kinds.{Hold, Kind, Meter, Send}
 use Rattle.std.proofs.Common.{ap, arith, inl, inr, refl, subst, sym, ◌∙◌}
 use Rattle.std.proofs.lemmas.Bool.Decides.{nat_tests}
@@ -17,7 +17,7 @@ use Rattle.std.specs.Option.{option_map_or}
 use Rattle.std.specs.Prelude.{Bool, List, None, Option, Some, [], false, if◌then◌else◌, length, set, slice_get, suc, true, zero, ℕ, ◌&&◌, ◌<◌, ◌==◌, ◌∷◌, ◌≡◌, ◌≢◌, ◌≤◌}
 use Rattle.wire_flows.proofs.Cases.{by_case, number_is}
 use Rattle.wire_flows.specs.Sound.{buffer_of}
-use Rattle.flow_gate.specs.declared.ids.BufferId.TheVariants as buffer
+use Rattle.flow_rules.specs.declared.ids.BufferId.TheVariants as buffer
 
 -- the source places are marked where they are above
 abbrev pub Marked : (BufferId → Bool) → FlowId → List Place → Type 0

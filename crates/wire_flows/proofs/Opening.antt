@@ -4,8 +4,8 @@ use Rattle.flow_gate.proofs.SameIds.{same_flow-refl}
 use Rattle.flow_gate.specs.Board.{Board, IsSound as AreSoundGates, is_known, is_marked, is_open, times, watchers_of}
 use Rattle.flow_gate.specs.Changes.{Begins, Forgets, Watches}
 use Rattle.flow_gate.specs.Ids.{is_own, same_flow}
-use Rattle.flow_gate.specs.declared.ids.BufferId.{BufferId}
-use Rattle.flow_gate.specs.declared.ids.FlowId.{FlowId}
+use Rattle.flow_rules.specs.declared.ids.BufferId.{BufferId}
+use Rattle.flow_rules.specs.declared.ids.FlowId.{FlowId}
 use Rattle.proxy_config.specs.declared.routes.Filter.{Filter}
 use Rattle.io_ports.specs.declared.octets.NoMemory.{NoMemory}
 use Rattle.std.proofs.Common.{ap, refl, subst, sym, ◌∙◌}
@@ -16,7 +16,7 @@ use Rattle.wire_flows.proofs.Cases.{by_case, not_both}
 use Rattle.wire_flows.proofs.Owners.{own_exact}
 use Rattle.wire_flows.proofs.Restored.{Partial, closed_none, closed_watches, partly_begun, restored, same_board, wholly_begun}
 use Rattle.wire_flows.specs.Begins.{BeginsBoth, BeginsFlow, Grows, IsFresh, IsSame, WatchesAll, WatchesOwn, is_held_by, meters}
-use Rattle.flow_gate.specs.declared.ids.BufferId.TheVariants as buffer
+use Rattle.flow_rules.specs.declared.ids.BufferId.TheVariants as buffer
 
 -- ---- what a flow that grows keeps
 pub grown_open : (f : FlowId) (old new : Board) → Grows f old new → is_open old f ≡ true → is_open new f ≡ true

@@ -6,8 +6,8 @@ use Rattle.exchange_core.specs.declared.exchange.Exchange.{Exchange}
 use Rattle.flow_gate.specs.Board.{Board, IsSound as AreSoundGates, is_known, is_marked, is_open, pending_on, watched_by, watchers_of}
 use Rattle.flow_gate.specs.Changes.{Same}
 use Rattle.flow_gate.specs.Ids.{is_own, same_buffer, same_flow}
-use Rattle.flow_gate.specs.declared.ids.BufferId.{BufferId}
-use Rattle.flow_gate.specs.declared.ids.FlowId.{FlowId}
+use Rattle.flow_rules.specs.declared.ids.BufferId.{BufferId}
+use Rattle.flow_rules.specs.declared.ids.FlowId.{FlowId}
 use Rattle.filter_chain.specs.Place.{kind_of}
 use Rattle.flow_gate.proofs.SameIds.{same_flow-refl}
 use Rattle.std.proofs.Common.{ap, arith, refl, subst, sym, ◌∙◌}
@@ -20,7 +20,7 @@ use Rattle.wire_flows.proofs.Kept.{own_is}
 use Rattle.wire_flows.specs.Flows.{Flows, KeepsLeft, KeepsLive, flow_in, goes_to, watches_in, watches_of}
 use Rattle.wire_flows.specs.Measure.{lows_of, to_go, way}
 use Rattle.wire_flows.specs.Sound.{AreInOrder, IsSound, IsWhole, MarksAre, buffer_of}
-use Rattle.flow_gate.specs.declared.ids.BufferId.TheVariants as buffer
+use Rattle.flow_rules.specs.declared.ids.BufferId.TheVariants as buffer
 
 -- ---- the gates alone
 -- a write buffer is no flow's own

@@ -3,13 +3,13 @@ use Rattle.flow_gate.proofs.SameIds.{same_buffer_exact, same_flow-refl, same_flo
 use Rattle.flow_gate.specs.Board.{times}
 use Rattle.flow_gate.specs.Changes.{without}
 use Rattle.flow_gate.specs.Ids.{is_own, same_buffer, same_flow}
-use Rattle.flow_gate.specs.declared.ids.BufferId.{BufferId}
-use Rattle.flow_gate.specs.declared.ids.FlowId.{FlowId}
+use Rattle.flow_rules.specs.declared.ids.BufferId.{BufferId}
+use Rattle.flow_rules.specs.declared.ids.FlowId.{FlowId}
 use Rattle.flow_gate.proofs.Counting.{count-cons}
 use Rattle.std.proofs.Common.{ap, arith, refl, subst, sym, ◌∙◌}
 use Rattle.std.specs.Prelude.{Bool, List, [], cond, false, if◌then◌else◌, length, not, true, ℕ, ◌+◌, ◌∷◌, ◌≡◌, ◌≤◌}
 use Rattle.wire_flows.proofs.Cases.{by_case, not_both}
-use Rattle.flow_gate.specs.declared.ids.BufferId.TheVariants as buffer
+use Rattle.flow_rules.specs.declared.ids.BufferId.TheVariants as buffer
 
 one_owner : (f g h : FlowId) → same_flow f h ≡ true → same_flow g h ≡ true → same_flow f g ≡ true
 one_owner f g h a b = subst (λ k. same_flow f k ≡ true) (sym (same_flow_exact g h b)) a

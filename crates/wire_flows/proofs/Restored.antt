@@ -3,8 +3,8 @@ use Rattle.flow_gate.proofs.SameIds.{same_flow_exact}
 use Rattle.flow_gate.specs.Board.{Board, FlowState, IsSound as AreSoundGates, is_known, is_marked, is_open, pending_on, times, times_of_buffer, watched_by, watchers_of}
 use Rattle.flow_gate.specs.Changes.{Begins, Forgets, Same, goes_with, without}
 use Rattle.flow_gate.specs.Ids.{is_own, same_flow}
-use Rattle.flow_gate.specs.declared.ids.BufferId.{BufferId}
-use Rattle.flow_gate.specs.declared.ids.FlowId.{FlowId}
+use Rattle.flow_rules.specs.declared.ids.BufferId.{BufferId}
+use Rattle.flow_rules.specs.declared.ids.FlowId.{FlowId}
 use Rattle.std.proofs.Common.{ap, arith, refl, subst, sym, ◌∙◌}
 use Rattle.std.specs.Map.{lookup}
 use Rattle.std.specs.Option.{option_map_or}

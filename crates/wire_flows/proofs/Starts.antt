@@ -11,8 +11,8 @@ use Rattle.filter_chain.specs.declared.stage.StageKind.TheVariants as stage
 use Rattle.flow_gate.proofs.SameIds.{same_flow-refl, same_flow_exact}
 use Rattle.flow_gate.specs.Board.{Board, IsSound as AreSoundGates, is_known, is_marked, is_open, pending_on, times, watched_by, watchers_of}
 use Rattle.flow_gate.specs.Ids.{is_own, same_flow}
-use Rattle.flow_gate.specs.declared.ids.BufferId.{BufferId}
-use Rattle.flow_gate.specs.declared.ids.FlowId.{FlowId}
+use Rattle.flow_rules.specs.declared.ids.BufferId.{BufferId}
+use Rattle.flow_rules.specs.declared.ids.FlowId.{FlowId}
 use Rattle.flow_rules.specs.Kinds.{Kind}
 use Rattle.flow_rules.specs.Sources.{sources_from as in_order, write_source}
 use Rattle.proxy_config.specs.declared.config.Config.{Config}
@@ -35,7 +35,7 @@ use Rattle.wire_flows.specs.Begins.{BeginsBoth, IsFresh, meters, watches_from, w
 use Rattle.wire_flows.specs.Flows.{Flows, flow_in, goes_to, is_there, watches_in, watches_of}
 use Rattle.wire_flows.specs.Measure.{flow_way, places_way, way}
 use Rattle.wire_flows.specs.Sound.{IsBounded, IsSound, IsWhole, IsWireFlow, IsWithin, MarksAre, buffer_of}
-use Rattle.flow_gate.specs.declared.ids.BufferId.TheVariants as buffer
+use Rattle.flow_rules.specs.declared.ids.BufferId.TheVariants as buffer
 
 -- ---- the places of a new flow
 abbrev pub new_places : List Filter → ℕ → List Place

@@ -13,8 +13,8 @@ use Rattle.filter_chain.specs.declared.stage.StageKind.TheVariants as stage
 use Rattle.flow_gate.proofs.SameIds.{same_buffer_exact}
 use Rattle.flow_gate.specs.Board.{Board, is_marked}
 use Rattle.flow_gate.specs.Ids.{same_buffer}
-use Rattle.flow_gate.specs.declared.ids.BufferId.{BufferId}
-use Rattle.flow_gate.specs.declared.ids.FlowId.{FlowId}
+use Rattle.flow_rules.specs.declared.ids.BufferId.{BufferId}
+use Rattle.flow_rules.specs.declared.ids.FlowId.{FlowId}
 use Rattle.flow_rules.specs.Kinds.{Kind}
 use Rattle.std.proofs.Common.{ap, arith, refl, subst, sym, ◌∙◌}
 use Rattle.std.proofs.lemmas.Bool.Decides.{nat_tests}

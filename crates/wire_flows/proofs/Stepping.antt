@@ -17,8 +17,8 @@ use Rattle.filter_chain.specs.declared.stage.StageKind.TheVariants as stage
 use Rattle.flow_gate.proofs.SameIds.{same_buffer-comm, same_flow-refl}
 use Rattle.flow_gate.specs.Board.{Board, IsSound as AreSoundGates, is_marked, pending_on, watchers_of}
 use Rattle.flow_gate.specs.Ids.{is_own, same_buffer, same_flow}
-use Rattle.flow_gate.specs.declared.ids.BufferId.{BufferId}
-use Rattle.flow_gate.specs.declared.ids.FlowId.{FlowId}
+use Rattle.flow_rules.specs.declared.ids.BufferId.{BufferId}
+use Rattle.flow_rules.specs.declared.ids.FlowId.{FlowId}
 use Rattle.std.proofs.Common.{ap, arith, refl, subst, sym, ◌∙◌}
 use Rattle.std.proofs.lemmas.Bool.Decides.{nat_tests}
 use Rattle.std.proofs.lemmas.Option.{none-some, same_Some, slice_get_within}
@@ -40,7 +40,7 @@ use Rattle.wire_flows.specs.Moves.{buffer_at, is_high, is_low}
 use Rattle.wire_flows.specs.Sound.{IsSound, IsWireFlow, MarksAre, buffer_of}
 use Rattle.wm_buffer.specs.Watermark.{crossing}
 use Rattle.wm_buffer.specs.declared.buffer.Shifted.{Shifted}
-use Rattle.flow_gate.specs.declared.ids.BufferId.TheVariants as buffer
+use Rattle.flow_rules.specs.declared.ids.BufferId.TheVariants as buffer
 
 -- where nothing moves the flow stays
 pub still_stays : (board : Board) (to : Option ℕ) (flow : Flow) → ((p n : ℕ) (shifted : Shifted) (overflow : Bool) → next_step board to flow ≡ step.Moved p n shifted overflow → ⊥) → stepped board to flow ≡ flow

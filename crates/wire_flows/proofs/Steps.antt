@@ -17,8 +17,8 @@ use Rattle.filter_chain.specs.declared.stage.StageKind.TheVariants as stage
 use Rattle.flow_gate.proofs.SameIds.{same_buffer-comm, same_buffer-refl, same_buffer_exact, same_flow-refl}
 use Rattle.flow_gate.specs.Board.{Board, is_known, is_marked, pending_on, watchers_of}
 use Rattle.flow_gate.specs.Ids.{is_own, same_buffer, same_flow}
-use Rattle.flow_gate.specs.declared.ids.BufferId.{BufferId}
-use Rattle.flow_gate.specs.declared.ids.FlowId.{FlowId}
+use Rattle.flow_rules.specs.declared.ids.BufferId.{BufferId}
+use Rattle.flow_rules.specs.declared.ids.FlowId.{FlowId}
 use Rattle.flow_rules.specs.Kinds.{Kind}
 use Rattle.std.proofs.Common.{ap, arith, refl, subst, sym, ◌∙◌}
 use Rattle.std.proofs.lemmas.Bool.Decides.{nat_tests}
@@ -38,7 +38,7 @@ use Rattle.wire_flows.specs.Moves.{buffer_at, is_high, is_low}
 use Rattle.wire_flows.specs.Sound.{MarksAre, buffer_of}
 use Rattle.wm_buffer.specs.Watermark.{above_after, crossing}
 use Rattle.wm_buffer.specs.declared.buffer.Shifted.{Shifted}
-use Rattle.flow_gate.specs.declared.ids.BufferId.TheVariants as buffer
+use Rattle.flow_rules.specs.declared.ids.BufferId.TheVariants as buffer
 
 -- ---- what a move was
 pub record Goes (board : Board) (to : Option ℕ) (flow : Flow) (p n : ℕ) (shifted : Shifted) (overflow : Bool) : Type 0 where

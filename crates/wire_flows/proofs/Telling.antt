@@ -7,8 +7,8 @@ use Rattle.flow_gate.proofs.SameIds.{same_flow-comm, same_flow-refl}
 use Rattle.flow_gate.specs.Board.{Board, pending_on, times, watchers_of}
 use Rattle.flow_gate.specs.Changes.{Tells}
 use Rattle.flow_gate.specs.Ids.{same_flow}
-use Rattle.flow_gate.specs.declared.ids.BufferId.{BufferId}
-use Rattle.flow_gate.specs.declared.ids.FlowId.{FlowId}
+use Rattle.flow_rules.specs.declared.ids.BufferId.{BufferId}
+use Rattle.flow_rules.specs.declared.ids.FlowId.{FlowId}
 use Rattle.std.proofs.Common.{ap, arith, refl, sym, ◌∙◌}
 use Rattle.std.proofs.lemmas.Option.{none-some}
 use Rattle.std.specs.Option.{option_and_then, option_map_or}
@@ -20,7 +20,7 @@ use Rattle.wire_flows.specs.Flows.{Flows, goes_to, is_live_in}
 use Rattle.wire_flows.specs.Measure.{all_of, low_of, lows_of, to_go, way}
 use Rattle.wire_flows.specs.Sound.{IsSound}
 use Rattle.wire_flows.specs.Writes.{lows_on}
-use Rattle.flow_gate.specs.declared.ids.BufferId.TheVariants as buffer
+use Rattle.flow_rules.specs.declared.ids.BufferId.TheVariants as buffer
 
 module _ (c : ℕ) (f : FlowId) (old : Flows) (board : Board) (s : IsSound old) (t : Tells (buffer.Write c) (f ∷ []) old.gates board) where
   abbrev after : Flows

@@ -10,7 +10,7 @@ use Rattle.filter_chain.specs.Chain.{Chain, place_at}
 use Rattle.filter_chain.specs.Effects.{ticked}
 use Rattle.filter_chain.specs.Place.{Place, is_source, kind_of, refilled}
 use Rattle.flow_gate.specs.Board.{Board, is_marked}
-use Rattle.flow_gate.specs.declared.ids.FlowId.{FlowId}
+use Rattle.flow_rules.specs.declared.ids.FlowId.{FlowId}
 use Rattle.flow_rules.specs.Kinds.{Kind}
 use Rattle.std.proofs.Common.{ap, refl, subst, sym, ◌∙◌}
 use Rattle.std.proofs.lemmas.Option.{none-some, same_Some}

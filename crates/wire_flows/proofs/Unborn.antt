@@ -6,8 +6,8 @@ use Rattle.flow_gate.proofs.SameIds.{same_flow-refl}
 use Rattle.flow_gate.specs.Board.{Board, IsSound as AreSoundGates, is_known, is_marked, is_open, pending_on, watched_by, watchers_of}
 use Rattle.flow_gate.specs.Changes.{Forgets}
 use Rattle.flow_gate.specs.Ids.{same_flow}
-use Rattle.flow_gate.specs.declared.ids.BufferId.{BufferId}
-use Rattle.flow_gate.specs.declared.ids.FlowId.{FlowId}
+use Rattle.flow_rules.specs.declared.ids.BufferId.{BufferId}
+use Rattle.flow_rules.specs.declared.ids.FlowId.{FlowId}
 use Rattle.io_ports.specs.declared.octets.NoMemory.{NoMemory}
 use Rattle.std.proofs.Common.{ap, arith, refl, subst, sym, ◌∙◌}
 use Rattle.std.specs.Option.{option_and_then}
@@ -21,7 +21,7 @@ use Rattle.wire_flows.specs.Begins.{BeginsBoth, BeginsFlow, IsFresh, IsSame}
 use Rattle.wire_flows.specs.Flows.{Flows, KeepsLeft, flow_in, is_there}
 use Rattle.wire_flows.specs.Sound.{AreInOrder, IsSound, MarksAre}
 use Rattle.wire_flows.specs.Writes.{KeepsLows, KeepsWrites, write_at}
-use Rattle.flow_gate.specs.declared.ids.BufferId.TheVariants as buffer
+use Rattle.flow_rules.specs.declared.ids.BufferId.TheVariants as buffer
 
 module _ (x : ℕ) (old : Flows) (s : IsSound old) (greater : old.exchanges.last < x) where
   pub unborn : exchange_at old.exchanges x ≡ None

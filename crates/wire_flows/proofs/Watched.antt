@@ -8,8 +8,8 @@ use Rattle.flow_gate.proofs.Counting.{count-append, count-cons}
 use Rattle.flow_gate.proofs.SameIds.{same_buffer-refl, same_flow-comm, same_flow-refl, same_flow_exact}
 use Rattle.flow_gate.specs.Board.{Board, is_known, pending_on, times, times_of_buffer, watched_by, watchers_of}
 use Rattle.flow_gate.specs.Ids.{is_own, same_buffer, same_flow}
-use Rattle.flow_gate.specs.declared.ids.BufferId.{BufferId}
-use Rattle.flow_gate.specs.declared.ids.FlowId.{FlowId}
+use Rattle.flow_rules.specs.declared.ids.BufferId.{BufferId}
+use Rattle.flow_rules.specs.declared.ids.FlowId.{FlowId}
 use Rattle.flow_rules.specs.Kinds.{Hold, Kind, Meter, Send}
 use Rattle.flow_rules.specs.Sources.{SourceAt, source_of, sources_from as in_order, write_source}
 use Rattle.std.proofs.Common.{ap, arith, refl, subst, sym, ◌∙◌}
@@ -25,7 +25,7 @@ use Rattle.wire_flows.proofs.Owners.{few_times, only_one, own_differs}
 use Rattle.wire_flows.specs.Flows.{Flows, flow_in, goes_to, watches_in, watches_of}
 use Rattle.wire_flows.specs.Sound.{IsSound, buffer_of}
 use Rattle.wire_flows.specs.Writes.{lows_on, watchers_on}
-use Rattle.flow_gate.specs.declared.ids.BufferId.TheVariants as buffer
+use Rattle.flow_rules.specs.declared.ids.BufferId.TheVariants as buffer
 
 abbrev pub buffers_of : List SourceAt → List BufferId
 buffers_of xs = map (λ s. s.buffer) xs

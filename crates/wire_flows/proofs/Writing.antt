@@ -1,7 +1,7 @@
 -- What is told goes on as it was where a write buffer opened, closed, rose or drained, and who is still to be told of other drains.
 use Rattle.flow_gate.specs.Board.{Board, pending_on, watchers_of}
 use Rattle.flow_gate.specs.Changes.{Drains, Tells}
-use Rattle.flow_gate.specs.declared.ids.FlowId.{FlowId}
+use Rattle.flow_rules.specs.declared.ids.FlowId.{FlowId}
 use Rattle.std.proofs.Common.{ap, refl, sym, ◌∙◌}
 use Rattle.std.proofs.lemmas.List.{append-nil}
 use Rattle.std.specs.Prelude.{Bool, List, [], false, if◌then◌else◌, true, ℕ, ◌++◌, ◌≡◌}
@@ -11,7 +11,7 @@ use Rattle.wire_flows.specs.Begins.{RisesIf}
 use Rattle.wire_flows.specs.Flows.{Flows}
 use Rattle.wire_flows.specs.Measure.{to_go}
 use Rattle.wire_flows.specs.Writes.{KeepsLows, KeepsOtherLows}
-use Rattle.flow_gate.specs.declared.ids.BufferId.TheVariants as buffer
+use Rattle.flow_rules.specs.declared.ids.BufferId.TheVariants as buffer
 
 -- nobody was told
 pub go_untold : (old : Flows) (board : Board) → ((d : ℕ) → pending_on board (buffer.Write d) ≡ pending_on old.gates (buffer.Write d)) → to_go (record { exchanges = old.exchanges; gates = board }) ≡ to_go old

@@ -4,8 +4,8 @@ use Rattle.exchange_core.specs.Flow.{Flow}
 use Rattle.exchange_core.specs.State.{sources}
 use Rattle.flow_gate.specs.Board.{Board}
 use Rattle.flow_gate.specs.Ids.{same_flow}
-use Rattle.flow_gate.specs.declared.ids.BufferId.{BufferId}
-use Rattle.flow_gate.specs.declared.ids.FlowId.{FlowId}
+use Rattle.flow_rules.specs.declared.ids.BufferId.{BufferId}
+use Rattle.flow_rules.specs.declared.ids.FlowId.{FlowId}
 use Rattle.std.specs.Option.{option_map_or}
 use Rattle.std.specs.Prelude.{Bool, IsSome, List, Option, [], if◌then◌else◌, is_some, length, map, ℕ, ◌≡◌}
 use Rattle.wire_flows.specs.declared.flows.WireFlows.TheInside.{Inside}

@@ -5,8 +5,8 @@ use Rattle.exchange_core.specs.declared.step.Step.{Step}
 use Rattle.exchange_core.specs.declared.step.Step.TheVariants as step
 use Rattle.flow_gate.specs.Board.{Board, is_known, is_marked, pending_on, watchers_of}
 use Rattle.flow_gate.specs.Ids.{same_buffer}
-use Rattle.flow_gate.specs.declared.ids.BufferId.{BufferId}
-use Rattle.flow_gate.specs.declared.ids.FlowId.{FlowId}
+use Rattle.flow_rules.specs.declared.ids.BufferId.{BufferId}
+use Rattle.flow_rules.specs.declared.ids.FlowId.{FlowId}
 use Rattle.flow_rules.specs.Pausing.{CanPause}
 use Rattle.flow_rules.specs.declared.unit.Unit.{Unit as NextUnit}
 use Rattle.flow_rules.specs.declared.unit.Unit.TheVariants.{Body}
@@ -18,7 +18,7 @@ use Rattle.wire_flows.specs.declared.moving.Outcome.{Outcome}
 use Rattle.wire_flows.specs.declared.moving.Outcome.TheVariants as outcome
 use Rattle.wm_buffer.specs.declared.buffer.Shifted.{Shifted}
 use Rattle.wm_buffer.specs.declared.watermark.Crossed.{Crossed}
-use Rattle.flow_gate.specs.declared.ids.BufferId.TheVariants as buffer
+use Rattle.flow_rules.specs.declared.ids.BufferId.TheVariants as buffer
 use Rattle.wm_buffer.specs.declared.watermark.Crossed.TheVariants as crossed
 
 abbrev pub is_high : Crossed → Bool

@@ -7,8 +7,8 @@ use Rattle.filter_chain.specs.Chain.{place_at}
 use Rattle.filter_chain.specs.Place.{Place, beyond, is_source, kind_of}
 use Rattle.flow_gate.specs.Board.{Board, IsSound as AreSoundGates, is_known, is_marked, is_open, pending_on, watched_by}
 use Rattle.flow_gate.specs.Ids.{is_own}
-use Rattle.flow_gate.specs.declared.ids.BufferId.{BufferId}
-use Rattle.flow_gate.specs.declared.ids.FlowId.{FlowId}
+use Rattle.flow_rules.specs.declared.ids.BufferId.{BufferId}
+use Rattle.flow_rules.specs.declared.ids.FlowId.{FlowId}
 use Rattle.flow_rules.specs.Kinds.{Hold, Kind, Meter, Send}
 use Rattle.std.specs.List.{AllByRecursion}
 use Rattle.std.specs.List.Sorted.{IsStrictlySortedBy}
@@ -18,7 +18,7 @@ use Rattle.std.specs.Prelude.{Bool, IfSome, IsSome, List, Option, Some, [], fals
 use Rattle.wire_flows.specs.Flows.{Flows, flow_in, flows_of, is_there, watches_in}
 use Rattle.wire_flows.specs.Writes.{watchers_on}
 use Rattle.wire_flows.specs.declared.flows.WireFlows.TheInside.{Inside}
-use Rattle.flow_gate.specs.declared.ids.BufferId.TheVariants as buffer
+use Rattle.flow_rules.specs.declared.ids.BufferId.TheVariants as buffer
 
 -- ---- what a flow holds
 -- A place with a limit holds no more than that and what one move may bring beyond it: a Hold nothing, another a quantum.

@@ -3,11 +3,11 @@ use Rattle.exchange_core.specs.Exchange.{flow_id}
 use Rattle.flow_gate.specs.Board.{is_known, is_marked, pending_on, watchers_of}
 use Rattle.flow_gate.specs.Changes.{without}
 use Rattle.flow_gate.specs.Ids.{same_buffer}
-use Rattle.flow_gate.specs.declared.ids.BufferId.{BufferId}
-use Rattle.flow_gate.specs.declared.ids.FlowId.{FlowId}
+use Rattle.flow_rules.specs.declared.ids.BufferId.{BufferId}
+use Rattle.flow_rules.specs.declared.ids.FlowId.{FlowId}
 use Rattle.std.specs.Prelude.{Bool, List, None, Option, Some, [], drop, false, if◌then◌else◌, length, option_map, true, ℕ, ◌&&◌, ◌==◌, ◌||◌, ◌≡◌}
 use Rattle.wire_flows.specs.Flows.{Flows, KeepsLeft, KeepsLive, time_of}
-use Rattle.flow_gate.specs.declared.ids.BufferId.TheVariants as buffer
+use Rattle.flow_rules.specs.declared.ids.BufferId.TheVariants as buffer
 
 -- whether it is above, and the flows that are still to be told that it drained, in order
 pub record Write : Type 0 where

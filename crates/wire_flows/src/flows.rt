@@ -7,7 +7,7 @@ ghost use Rattle.exchange_core.specs.Exchanges.{exchange_at};
 ghost use Rattle.exchange_core.specs.Message.{head_came};
 ghost use Rattle.exchange_core.specs.Replies.{reckoning};
 ghost use Rattle.flow_gate.specs.Board.{IsSound as AreSoundGates, is_known, is_marked};
-ghost use Rattle.flow_gate.specs.declared.ids.FlowId.{FlowId as Flow};
+ghost use Rattle.flow_rules.specs.declared.ids.FlowId.{FlowId as Flow};
 ghost use Rattle.wire_flows.specs.Begins.{RisesIf};
 ghost use Rattle.wire_flows.specs.Flows.{ChangesLeft, IsThere, KeepsLeft, KeepsLive, flow_in, goes_to, is_live_in, left_in, time_of};
 ghost use Rattle.wire_flows.specs.Measure.{to_go};

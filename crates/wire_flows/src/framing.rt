@@ -9,7 +9,7 @@ ghost use Rattle.exchange_core.specs.Flow.{send};
 ghost use Rattle.exchange_core.specs.Message.{fields_of};
 ghost use Rattle.exchange_core.specs.Units.{IsFrameable, next_unit};
 ghost use Rattle.flow_gate.specs.Board.{IsSound as AreSoundGates, is_known, is_marked, pending_on, watchers_of};
-ghost use Rattle.flow_gate.specs.declared.ids.BufferId.{BufferId as Buffer};
+ghost use Rattle.flow_rules.specs.declared.ids.BufferId.{BufferId as Buffer};
 ghost use Rattle.flow_rules.specs.Narrowed.{octets_of};
 ghost use Rattle.flow_rules.specs.declared.unit.Unit.TheVariants.{Body, Head};
 ghost use Rattle.h2_frames.specs.Head.{data_head as data_head_octets};

@@ -5,7 +5,7 @@ ghost use Rattle.exchange_core.specs.Changes.{ChangesFlow};
 ghost use Rattle.exchange_core.specs.Moves.{has_room_ahead, next_step, stepped};
 ghost use Rattle.exchange_core.specs.Exchanges.{IsLiveFlow, IsSound as AreSoundExchanges, flow_at};
 ghost use Rattle.flow_gate.specs.Board.{IsSound as AreSoundGates, is_known, is_marked, pending_on, watchers_of};
-ghost use Rattle.flow_gate.specs.declared.ids.BufferId.{BufferId as Buffer};
+ghost use Rattle.flow_rules.specs.declared.ids.BufferId.{BufferId as Buffer};
 ghost use Rattle.wire_flows.specs.Begins.{DrainsIf, RisesIf, lows_left};
 ghost use Rattle.wire_flows.specs.Flows.{ChangesLeft, KeepsLive, flow_in, goes_to, left_in, time_of};
 ghost use Rattle.wire_flows.specs.Measure.{taken_by, to_go};

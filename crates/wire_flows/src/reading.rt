@@ -6,7 +6,7 @@ ghost use Rattle.exchange_core.specs.Exchanges.{IsNextMetered, exchange_at};
 ghost use Rattle.exchange_core.specs.Flow.{held_by};
 ghost use Rattle.exchange_core.specs.Message.{awaited, head_came};
 ghost use Rattle.flow_gate.specs.Board.{count, watchers_of};
-ghost use Rattle.flow_gate.specs.declared.ids.FlowId.{FlowId as Flow};
+ghost use Rattle.flow_rules.specs.declared.ids.FlowId.{FlowId as Flow};
 ghost use Rattle.wire_flows.specs.Flows.{IsThere, flow_in, is_live_in, is_there, time_of};
 ghost use Rattle.wire_flows.specs.Sound.{AreBounded, IsSound};
 ghost use Rattle.wire_flows.specs.Writes.{write_at};

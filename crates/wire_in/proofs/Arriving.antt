@@ -4,7 +4,7 @@ use Rattle.exchange_core.specs.Flow.{Flow}
 use Rattle.exchange_core.specs.declared.step.Received.{Received}
 use Rattle.exchange_core.specs.declared.step.Received.TheVariants.{Arrived, TooMany}
 use Rattle.exchange_core.specs.Changes.{ChangesFlow}
-use Rattle.flow_gate.specs.declared.ids.FlowId.{FlowId}
+use Rattle.flow_rules.specs.declared.ids.FlowId.{FlowId}
 use Rattle.flow_notes.specs.declared.notes.Note.{Note}
 use Rattle.flow_notes.specs.declared.notes.Note.TheVariants as note
 use Rattle.proxy_config.specs.declared.config.Config.{Config}

@@ -1,5 +1,5 @@
 -- A wire session as far as its flows go: each exchange has a request and a response, with the stages of its route.
-use Rattle.flow_gate.specs.declared.ids.FlowId.{FlowId}
+use Rattle.flow_rules.specs.declared.ids.FlowId.{FlowId}
 use Rattle.hpack_codec.specs.declared.fields.Field.{Field}
 use Rattle.proxy_config.specs.declared.config.Config.{Config}
 use Rattle.proxy_config.specs.declared.routes.Filter.{Filter}

@@ -1,5 +1,5 @@
 -- What came for a flow, by the frames that were taken from its stream (RFC 9113 section 8.1).
-use Rattle.flow_gate.specs.declared.ids.FlowId.{FlowId}
+use Rattle.flow_rules.specs.declared.ids.FlowId.{FlowId}
 use Rattle.h2_frames.specs.Body.{stream_body}
 use Rattle.h2_frames.specs.Frame.{Frame}
 use Rattle.h2_heads.specs.Heads.{is_interim}

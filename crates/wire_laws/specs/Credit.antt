@@ -1,5 +1,5 @@
 -- What this side owes its peers of their windows, and what it has left to them (RFC 9113 section 5.2).
-use Rattle.flow_gate.specs.declared.ids.FlowId.{FlowId}
+use Rattle.flow_rules.specs.declared.ids.FlowId.{FlowId}
 use Rattle.proxy_config.specs.declared.config.Config.{Config}
 use Rattle.std.specs.Option.{option_map_or}
 use Rattle.std.specs.Prelude.{Bool, [], if◌then◌else◌, length, not, sum_by, ℕ, ◌&&◌, ◌+◌, ◌-◌, ◌==◌, ◌∷◌}

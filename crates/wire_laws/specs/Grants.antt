@@ -1,5 +1,5 @@
 -- The window updates that are due (RFC 9113 section 6.9).
-use Rattle.flow_gate.specs.declared.ids.FlowId.{FlowId}
+use Rattle.flow_rules.specs.declared.ids.FlowId.{FlowId}
 use Rattle.h2_windows.specs.RecvWindow.{is_due}
 use Rattle.proxy_config.specs.declared.config.Config.{Config}
 use Rattle.std.specs.Prelude.{Bool, List, [], flat_map, if◌then◌else◌, nat_lt, not, true, ℕ, ◌&&◌, ◌++◌, ◌==◌, ◌∷◌}

@@ -1,5 +1,5 @@
 -- How heads, trailers, replies and answers are spelled on the wire (RFC 9113 sections 6.2, 6.10 and 8.1).
-use Rattle.flow_gate.specs.declared.ids.FlowId.{FlowId}
+use Rattle.flow_rules.specs.declared.ids.FlowId.{FlowId}
 use Rattle.h2_frames.specs.Blocks.{block_frames, spellings}
 use Rattle.h2_heads.specs.Replies.{status_list}
 use Rattle.h2_session.specs.declared.act.Setting.{Setting}

@@ -1,5 +1,5 @@
 -- What a doom puts for its client and its cluster (RFC 9113 sections 5.4.2, 7 and 8.1).
-use Rattle.flow_gate.specs.declared.ids.FlowId.{FlowId}
+use Rattle.flow_rules.specs.declared.ids.FlowId.{FlowId}
 use Rattle.flow_rules.specs.declared.causes.Cause.{Cause}
 use Rattle.flow_rules.specs.Moves.{overfills}
 use Rattle.proxy_config.specs.declared.config.Config.{Config}

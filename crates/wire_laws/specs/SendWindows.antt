@@ -1,5 +1,5 @@
 -- What the peer's settings and windows let a flow send (RFC 9113 sections 5.2, 6.5.2 and 6.9).
-use Rattle.flow_gate.specs.declared.ids.FlowId.{FlowId}
+use Rattle.flow_rules.specs.declared.ids.FlowId.{FlowId}
 use Rattle.h2_session.specs.declared.act.Setting.{Setting}
 use Rattle.std.specs.Option.{option_map_or}
 use Rattle.std.specs.Prelude.{List, [], if◌then◌else◌, min, ℕ, ◌&&◌, ◌+◌, ◌-◌, ◌==◌, ◌∷◌}

@@ -3,7 +3,7 @@ use Rattle.exchange_core.specs.Changes.{ChangesFlow}
 use Rattle.exchange_core.specs.Effects.{body_framed, list_framed}
 use Rattle.exchange_core.specs.Exchanges.{is_send_above}
 use Rattle.exchange_core.specs.Flow.{Flow, send}
-use Rattle.flow_gate.specs.declared.ids.FlowId.{FlowId}
+use Rattle.flow_rules.specs.declared.ids.FlowId.{FlowId}
 use Rattle.flow_notes.specs.declared.notes.Note.TheVariants as note
 use Rattle.h2_frames.specs.Frame.{WindowUpdate}
 use Rattle.h2_frames.specs.Head.{data_head}

@@ -1,5 +1,5 @@
 -- Which exchange an obeyed state resets next: that of the greatest memory class, of these the one that came into its class first.
-use Rattle.flow_gate.specs.declared.ids.FlowId.{FlowId}
+use Rattle.flow_rules.specs.declared.ids.FlowId.{FlowId}
 use Rattle.flow_notes.specs.declared.events.Event.{Event}
 use Rattle.overload_core.specs.Accounts.{cleared}
 use Rattle.overload_core.specs.Course.{Holding, class_at, stay}

@@ -1,6 +1,6 @@
 -- What each step asks for, in order: an event, a frame that was taken, a decision against a request, a timer, a loss and a flood.
-use Rattle.flow_gate.specs.declared.ids.BufferId.{BufferId}
-use Rattle.flow_gate.specs.declared.ids.FlowId.{FlowId}
+use Rattle.flow_rules.specs.declared.ids.BufferId.{BufferId}
+use Rattle.flow_rules.specs.declared.ids.FlowId.{FlowId}
 use Rattle.flow_notes.specs.declared.events.Event.{Event}
 use Rattle.flow_rules.specs.declared.causes.Cause.{Cause}
 use Rattle.flow_rules.specs.declared.causes.FireKind.{FireKind}

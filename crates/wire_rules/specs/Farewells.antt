@@ -11,7 +11,7 @@ use Rattle.tape_laws.specs.Watermark.{above}
 use Rattle.wire_laws.specs.Base.{wire_base}
 use Rattle.wire_laws.specs.Marks.{Picked, WireHistory, WireStep}
 use Rattle.wire_rules.specs.Owed.{owed}
-use Rattle.flow_gate.specs.declared.ids.BufferId.TheVariants as buffer
+use Rattle.flow_rules.specs.declared.ids.BufferId.TheVariants as buffer
 use Rattle.flow_notes.specs.declared.notes.CloseCause.TheVariants as closed
 use Rattle.flow_notes.specs.declared.notes.Note.TheVariants as note
 

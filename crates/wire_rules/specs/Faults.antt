@@ -1,5 +1,5 @@
 -- The stream and connection errors of a frame (RFC 9113 sections 5.4, 6.9 and 8.1.1). `past` is what stood before it was taken.
-use Rattle.flow_gate.specs.declared.ids.FlowId.{FlowId}
+use Rattle.flow_rules.specs.declared.ids.FlowId.{FlowId}
 use Rattle.h2_frames.specs.Frame.{Frame, content_of}
 use Rattle.h2_session.specs.Acts.{stream_of as stream_of_act}
 use Rattle.h2_session.specs.Errors.{code_when, first_of}

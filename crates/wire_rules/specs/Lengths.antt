@@ -1,5 +1,5 @@
 -- Whether a body is as long as its head declares (RFC 9110 section 8.6, RFC 9113 section 8.1.1).
-use Rattle.flow_gate.specs.declared.ids.FlowId.{FlowId}
+use Rattle.flow_rules.specs.declared.ids.FlowId.{FlowId}
 use Rattle.h2_heads.specs.Heads.{is_head, length_of, status_of}
 use Rattle.hpack_codec.specs.declared.fields.Field.{Field}
 use Rattle.std.specs.Option.{option_map_or}

@@ -1,5 +1,5 @@
 -- Each doom and each close has its cause in its own dispatch.
-use Rattle.flow_gate.specs.declared.ids.FlowId.{FlowId}
+use Rattle.flow_rules.specs.declared.ids.FlowId.{FlowId}
 use Rattle.flow_rules.specs.declared.causes.Cause.{Cause}
 use Rattle.flow_notes.specs.declared.notes.CloseCause.{CloseCause}
 use Rattle.proxy_config.specs.declared.config.Config.{Config}

@@ -1,5 +1,5 @@
 -- What the octets that went to a connection spell, as lawful tapes have it.
-use Rattle.flow_gate.specs.declared.ids.FlowId.{FlowId}
+use Rattle.flow_rules.specs.declared.ids.FlowId.{FlowId}
 use Rattle.h2_frames.specs.Body.{stream_body}
 use Rattle.h2_frames.specs.Frame.{Frame}
 use Rattle.h2_frames.specs.Frames.{AreFrames}

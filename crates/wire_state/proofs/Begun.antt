@@ -9,9 +9,9 @@ use Rattle.filter_chain.specs.Place.{Place, empty_place, kind_of}
 use Rattle.filter_chain.specs.declared.stage.StageKind.TheVariants as kind
 use Rattle.flow_gate.specs.Board.{is_known, is_marked, lows, pending_on, times, watched_by}
 use Rattle.flow_gate.specs.Ids.{same_flow}
-use Rattle.flow_gate.specs.declared.ids.BufferId.{BufferId}
-use Rattle.flow_gate.specs.declared.ids.BufferId.TheVariants as buffer
-use Rattle.flow_gate.specs.declared.ids.FlowId.{FlowId}
+use Rattle.flow_rules.specs.declared.ids.BufferId.{BufferId}
+use Rattle.flow_rules.specs.declared.ids.BufferId.TheVariants as buffer
+use Rattle.flow_rules.specs.declared.ids.FlowId.{FlowId}
 use Rattle.flow_laws.proofs.Flags.{flag_now}
 use Rattle.flow_laws.proofs.Lists.{count_cons, one_if}
 use Rattle.flow_laws.proofs.Lives.{has_more}

@@ -4,7 +4,7 @@ use Rattle.exchange_core.specs.Effects.{arrived, body_framed, moved}
 use Rattle.exchange_core.specs.Flow.{Flow, last_place as send_place, send}
 use Rattle.filter_chain.specs.Place.{Place}
 use Rattle.flow_gate.proofs.SameIds.{same_flow_exact}
-use Rattle.flow_gate.specs.declared.ids.FlowId.{FlowId}
+use Rattle.flow_rules.specs.declared.ids.FlowId.{FlowId}
 use Rattle.h2_frames.specs.Head.{data_head}
 use Rattle.proxy_config.specs.declared.config.LimitKeys.{LimitKeys}
 use Rattle.std.proofs.Common.{ap, arith, refl, subst, sym, ◌∙◌}

@@ -1,9 +1,9 @@
 -- What the counts are where a connection comes and where it is forgotten.
 use Rattle.exchange_core.specs.Exchanges.{flow_at, target_of}
 use Rattle.flow_gate.specs.Board.{pending_on, watched_by}
-use Rattle.flow_gate.specs.declared.ids.BufferId.{BufferId}
-use Rattle.flow_gate.specs.declared.ids.BufferId.TheVariants as buffer
-use Rattle.flow_gate.specs.declared.ids.FlowId.{FlowId}
+use Rattle.flow_rules.specs.declared.ids.BufferId.{BufferId}
+use Rattle.flow_rules.specs.declared.ids.BufferId.TheVariants as buffer
+use Rattle.flow_rules.specs.declared.ids.FlowId.{FlowId}
 use Rattle.flow_laws.proofs.Flags.{flag_now}
 use Rattle.paged_map.specs.PagedMap.{PagedMap, Updates, value_at}
 use Rattle.proxy_config.specs.declared.config.LimitKeys.{LimitKeys}

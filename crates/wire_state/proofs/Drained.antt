@@ -4,9 +4,9 @@ use Rattle.exchange_core.specs.Flow.{Flow}
 use Rattle.flow_gate.proofs.SameIds.{same_buffer_exact}
 use Rattle.flow_gate.specs.Board.{is_known, is_marked, lows, pending_on, times, times_of_buffer, watched_by}
 use Rattle.flow_gate.specs.Ids.{same_buffer}
-use Rattle.flow_gate.specs.declared.ids.BufferId.{BufferId}
-use Rattle.flow_gate.specs.declared.ids.BufferId.TheVariants as buffer
-use Rattle.flow_gate.specs.declared.ids.FlowId.{FlowId}
+use Rattle.flow_rules.specs.declared.ids.BufferId.{BufferId}
+use Rattle.flow_rules.specs.declared.ids.BufferId.TheVariants as buffer
+use Rattle.flow_rules.specs.declared.ids.FlowId.{FlowId}
 use Rattle.flow_laws.proofs.Flags.{no_rise}
 use Rattle.flow_notes.specs.declared.notes.Note.{Note}
 use Rattle.flow_laws.proofs.Lists.{one_if}

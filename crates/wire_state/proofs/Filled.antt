@@ -4,9 +4,9 @@ use Rattle.exchange_core.specs.Exchanges.{exchange_at}
 use Rattle.exchange_core.specs.Flow.{Flow}
 use Rattle.exchange_core.specs.declared.exchange.Exchange.{Exchange}
 use Rattle.flow_gate.specs.Board.{pending_on, times, times_of_buffer, watched_by, watchers_of}
-use Rattle.flow_gate.specs.declared.ids.BufferId.{BufferId}
-use Rattle.flow_gate.specs.declared.ids.BufferId.TheVariants as buffer
-use Rattle.flow_gate.specs.declared.ids.FlowId.{FlowId}
+use Rattle.flow_rules.specs.declared.ids.BufferId.{BufferId}
+use Rattle.flow_rules.specs.declared.ids.BufferId.TheVariants as buffer
+use Rattle.flow_rules.specs.declared.ids.FlowId.{FlowId}
 use Rattle.flow_laws.specs.Steps.{fed_by}
 use Rattle.flow_notes.specs.declared.notes.Note.{Note}
 use Rattle.paged_map.specs.PagedMap.{PagedMap, WritesThrough, value_at}

@@ -3,7 +3,7 @@ use Rattle.exchange_core.specs.Flow.{Flow}
 use Rattle.filter_chain.specs.Place.{IsPlace, IsWithinKind, Place, beyond}
 use Rattle.filter_chain.specs.declared.stage.StageKind.{StageKind as PlaceKind}
 use Rattle.filter_chain.specs.declared.stage.StageKind.TheVariants as kind
-use Rattle.flow_gate.specs.declared.ids.FlowId.{FlowId}
+use Rattle.flow_rules.specs.declared.ids.FlowId.{FlowId}
 use Rattle.flow_rules.specs.declared.causes.Cause.{Cause}
 use Rattle.flow_notes.specs.declared.notes.Note.TheVariants as note
 use Rattle.paged_map.specs.PagedMap.{PagedMap}

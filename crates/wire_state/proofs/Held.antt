@@ -8,7 +8,7 @@ use Rattle.filter_chain.specs.Chain.{place_at, stages}
 use Rattle.filter_chain.specs.Effects.{changed_at, passed, ticked, whole_steps}
 use Rattle.filter_chain.specs.Place.{Place, empty_place, gaining, letting_go, losing, refilled}
 use Rattle.filter_chain.specs.declared.stage.StageKind.TheVariants.{Send}
-use Rattle.flow_gate.specs.declared.ids.FlowId.{FlowId}
+use Rattle.flow_rules.specs.declared.ids.FlowId.{FlowId}
 use Rattle.hpack_codec.specs.declared.fields.Field.{Field}
 use Rattle.proxy_config.specs.declared.routes.Filter.{Filter}
 use Rattle.proxy_config.specs.declared.routes.Filter.TheVariants as filter

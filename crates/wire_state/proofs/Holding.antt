@@ -1,7 +1,7 @@
 -- Notes that hold flows back or let them go: they move no octets, and no buffer rises or drains by them.
-use Rattle.flow_gate.specs.declared.ids.BufferId.{BufferId}
-use Rattle.flow_gate.specs.declared.ids.BufferId.TheVariants as buffer
-use Rattle.flow_gate.specs.declared.ids.FlowId.{FlowId}
+use Rattle.flow_rules.specs.declared.ids.BufferId.{BufferId}
+use Rattle.flow_rules.specs.declared.ids.BufferId.TheVariants as buffer
+use Rattle.flow_rules.specs.declared.ids.FlowId.{FlowId}
 use Rattle.flow_gate.specs.Board.{times}
 use Rattle.flow_laws.proofs.Flags.{flag_now}
 use Rattle.flow_laws.proofs.Lists.{count_cons, flow_swapped, one_if}

@@ -9,7 +9,7 @@ use Rattle.exchange_core.specs.declared.start.StartSpec.{StartSpec}
 use Rattle.filter_chain.specs.Chain.{stages}
 use Rattle.filter_chain.specs.Place.{Place, empty_place}
 use Rattle.filter_chain.specs.declared.stage.StageKind.TheVariants.{Send}
-use Rattle.flow_gate.specs.declared.ids.FlowId.{FlowId}
+use Rattle.flow_rules.specs.declared.ids.FlowId.{FlowId}
 use Rattle.flow_rules.specs.declared.causes.Cause.{Cause}
 use Rattle.flow_notes.specs.declared.notes.Note.{Note}
 use Rattle.proxy_config.specs.declared.config.Config.{Config}

@@ -9,9 +9,9 @@ use Rattle.filter_chain.specs.Place.{Place}
 use Rattle.filter_chain.specs.declared.stage.StageKind.{StageKind as PlaceKind}
 use Rattle.flow_gate.specs.Board.{lows, pending_on, times, times_of_buffer, watched_by}
 use Rattle.flow_gate.specs.Ids.{same_buffer, same_flow}
-use Rattle.flow_gate.specs.declared.ids.BufferId.{BufferId}
-use Rattle.flow_gate.specs.declared.ids.BufferId.TheVariants as buffer
-use Rattle.flow_gate.specs.declared.ids.FlowId.{FlowId}
+use Rattle.flow_rules.specs.declared.ids.BufferId.{BufferId}
+use Rattle.flow_rules.specs.declared.ids.BufferId.TheVariants as buffer
+use Rattle.flow_rules.specs.declared.ids.FlowId.{FlowId}
 use Rattle.flow_laws.proofs.Lists.{buffer_is, buffer_same, count_cons, flow_is, flow_same, flow_swapped, one_if}
 use Rattle.flow_notes.specs.declared.notes.Note.{Note}
 use Rattle.flow_notes.specs.declared.notes.Note.TheVariants as note

@@ -1,5 +1,5 @@
 -- From what a core stands for to what its tape promises.
-use Rattle.flow_gate.specs.declared.ids.FlowId.{FlowId}
+use Rattle.flow_rules.specs.declared.ids.FlowId.{FlowId}
 use Rattle.flow_notes.specs.declared.events.Event.TheVariants as event
 use Rattle.flow_notes.specs.declared.notes.CloseCause.TheVariants as cause
 use Rattle.flow_notes.specs.declared.notes.Note.TheVariants as note

@@ -1,9 +1,9 @@
 -- Which sources of a flow a step makes rise or drain, and how many of them are above then.
 use Rattle.flow_gate.specs.Board.{times_of_buffer}
 use Rattle.flow_gate.specs.Ids.{same_buffer}
-use Rattle.flow_gate.specs.declared.ids.BufferId.{BufferId}
-use Rattle.flow_gate.specs.declared.ids.BufferId.TheVariants as buffer
-use Rattle.flow_gate.specs.declared.ids.FlowId.{FlowId}
+use Rattle.flow_rules.specs.declared.ids.BufferId.{BufferId}
+use Rattle.flow_rules.specs.declared.ids.BufferId.TheVariants as buffer
+use Rattle.flow_rules.specs.declared.ids.FlowId.{FlowId}
 use Rattle.flow_laws.proofs.Flags.{crossing, no_drain, no_rise}
 use Rattle.flow_laws.proofs.Lengths.{Arrives, Comes, Doomed, Easing, Feeding, Framed, Leaves, NotEased, NotFed, easing, feeding, out_eased, out_fed}
 use Rattle.flow_laws.proofs.Lists.{buffer_is, buffer_same, count_cons, not_both, not_so, number_is, one_if, same_number}

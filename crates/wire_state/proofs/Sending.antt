@@ -1,6 +1,6 @@
 -- What a flow received is what it sent on, then what lies in its places, and so what it sent on is a front of it.
 use Rattle.flow_gate.proofs.SameIds.{same_flow_exact}
-use Rattle.flow_gate.specs.declared.ids.FlowId.{FlowId}
+use Rattle.flow_rules.specs.declared.ids.FlowId.{FlowId}
 use Rattle.flow_laws.proofs.Losing.{front_more, front_on}
 use Rattle.flow_laws.proofs.Octets.{arrived_lying, framed_lying, moved_lying, none_lying}
 use Rattle.flow_laws.specs.Octets.{LosesNothing, lying}

@@ -1,5 +1,5 @@
 -- What tied marks say of a history: which stages each flow passes, and on which row each exchange began.
-use Rattle.flow_gate.specs.declared.ids.FlowId.{FlowId}
+use Rattle.flow_rules.specs.declared.ids.FlowId.{FlowId}
 use Rattle.flow_notes.specs.declared.notes.Note.TheVariants as note
 use Rattle.proxy_config.specs.declared.config.Config.{Config}
 use Rattle.std.proofs.Common.{ap, append_assoc, arith, refl, sym, ◌∙◌}

@@ -5,9 +5,9 @@ use Rattle.filter_chain.specs.Place.{kind_of}
 use Rattle.flow_gate.proofs.SameIds.{same_buffer_exact}
 use Rattle.flow_gate.specs.Board.{is_known, is_marked, lows, pending_on, times, times_of_buffer, watched_by}
 use Rattle.flow_gate.specs.Ids.{same_buffer, same_flow}
-use Rattle.flow_gate.specs.declared.ids.BufferId.{BufferId}
-use Rattle.flow_gate.specs.declared.ids.BufferId.TheVariants as buffer
-use Rattle.flow_gate.specs.declared.ids.FlowId.{FlowId}
+use Rattle.flow_rules.specs.declared.ids.BufferId.{BufferId}
+use Rattle.flow_rules.specs.declared.ids.BufferId.TheVariants as buffer
+use Rattle.flow_rules.specs.declared.ids.FlowId.{FlowId}
 use Rattle.flow_laws.proofs.Lists.{buffer_is, count_cons, flow_is, flow_same, flow_swapped, one_if}
 use Rattle.flow_laws.proofs.Sources.{behind}
 use Rattle.flow_notes.specs.declared.notes.Note.{Note}

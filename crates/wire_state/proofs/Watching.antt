@@ -6,9 +6,9 @@ use Rattle.filter_chain.specs.declared.stage.StageKind.{StageKind as PlaceKind}
 use Rattle.filter_chain.specs.declared.stage.StageKind.TheVariants as kind
 use Rattle.flow_gate.specs.Board.{Board, lows, pending_on, times, times_of_buffer, watched_by, watchers_of}
 use Rattle.flow_gate.specs.Ids.{same_buffer, same_flow}
-use Rattle.flow_gate.specs.declared.ids.BufferId.{BufferId}
-use Rattle.flow_gate.specs.declared.ids.BufferId.TheVariants as buffer
-use Rattle.flow_gate.specs.declared.ids.FlowId.{FlowId}
+use Rattle.flow_rules.specs.declared.ids.BufferId.{BufferId}
+use Rattle.flow_rules.specs.declared.ids.BufferId.TheVariants as buffer
+use Rattle.flow_rules.specs.declared.ids.FlowId.{FlowId}
 use Rattle.flow_laws.proofs.Lists.{buffer_is, count_cons, one_if, same_number}
 use Rattle.flow_laws.proofs.Sources.{behind}
 use Rattle.flow_rules.specs.Kinds.{Kind, Send}

@@ -9,8 +9,8 @@ use Rattle.filter_chain.specs.Chain.{above_in}
 use Rattle.flow_gate.proofs.SameIds.{same_flow_exact}
 use Rattle.flow_gate.specs.Board.{watched_by}
 use Rattle.flow_gate.specs.Ids.{same_flow}
-use Rattle.flow_gate.specs.declared.ids.BufferId.TheVariants as buffer
-use Rattle.flow_gate.specs.declared.ids.FlowId.{FlowId}
+use Rattle.flow_rules.specs.declared.ids.BufferId.TheVariants as buffer
+use Rattle.flow_rules.specs.declared.ids.FlowId.{FlowId}
 use Rattle.flow_laws.proofs.Flags.{flag_now}
 use Rattle.flow_laws.proofs.Lists.{one_if}
 use Rattle.flow_laws.proofs.Spared.{spares}

@@ -1,5 +1,5 @@
 -- What is under way in a dispatch, with what was begun last in front.
-use Rattle.flow_gate.specs.declared.ids.FlowId.{FlowId}
+use Rattle.flow_rules.specs.declared.ids.FlowId.{FlowId}
 use Rattle.flow_gate.specs.Ids.{same_flow}
 use Rattle.number_set.specs.NumberSet.{has}
 use Rattle.std.specs.Prelude.{Bool, List, [], false, if◌then◌else◌, ℕ, ◌==◌, ◌∷◌}

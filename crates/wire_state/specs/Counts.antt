@@ -3,9 +3,9 @@ use Rattle.exchange_core.specs.Flow.{Flow}
 use Rattle.filter_chain.specs.Chain.{place_at}
 use Rattle.filter_chain.specs.Place.{Place, is_source, kind_of}
 use Rattle.flow_gate.specs.Board.{lows, pending_on}
-use Rattle.flow_gate.specs.declared.ids.BufferId.{BufferId}
-use Rattle.flow_gate.specs.declared.ids.BufferId.TheVariants as buffer
-use Rattle.flow_gate.specs.declared.ids.FlowId.{FlowId}
+use Rattle.flow_rules.specs.declared.ids.BufferId.{BufferId}
+use Rattle.flow_rules.specs.declared.ids.BufferId.TheVariants as buffer
+use Rattle.flow_rules.specs.declared.ids.FlowId.{FlowId}
 use Rattle.paged_map.specs.PagedMap.{PagedMap, value_at}
 use Rattle.proxy_config.specs.declared.config.LimitKeys.{LimitKeys}
 use Rattle.std.specs.Option.{option_map, option_map_or}

@@ -1,6 +1,6 @@
 -- Between which connections the flows of exchanges go.
 use Rattle.flow_gate.specs.Board.{count}
-use Rattle.flow_gate.specs.declared.ids.FlowId.{FlowId}
+use Rattle.flow_rules.specs.declared.ids.FlowId.{FlowId}
 use Rattle.std.specs.Option.{option_and_then, option_map}
 use Rattle.std.specs.Prelude.{Bool, List, None, Option, Some, if◌then◌else◌, nat_eq, nat_le, not, slice_get, true, ℕ, ◌&&◌, ◌-◌, ◌==◌, ◌≡◌}
 use Rattle.wire_flows.specs.Flows.{Flows, is_there}

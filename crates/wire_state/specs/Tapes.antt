@@ -1,5 +1,5 @@
 -- What the tape of wire sessions promises to an operator, as far as it is proved.
-use Rattle.flow_gate.specs.declared.ids.FlowId.{FlowId}
+use Rattle.flow_rules.specs.declared.ids.FlowId.{FlowId}
 use Rattle.flow_notes.specs.declared.notes.Note.TheVariants as note
 use Rattle.proxy_config.specs.declared.config.LimitKeys.{LimitKeys}
 use Rattle.std.specs.Prelude.{None, Option, Some, [], if◌then◌else◌, ℕ, ◌==◌, ◌∷◌}

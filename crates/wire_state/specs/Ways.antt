@@ -1,7 +1,7 @@
 -- What the world of a wire session's tape needs beside the notes: the stages that an exchange passes, which its start note
 -- doesn't tell, whether its request goes to a connection, where that note says 0, and the stream that a request gets at its cluster,
 -- of which no note says whose it is.
-use Rattle.flow_gate.specs.declared.ids.FlowId.{FlowId}
+use Rattle.flow_rules.specs.declared.ids.FlowId.{FlowId}
 use Rattle.flow_notes.specs.declared.notes.Note.{Note}
 use Rattle.flow_notes.specs.declared.notes.Note.TheVariants as note
 use Rattle.proxy_config.specs.declared.routes.Filter.{Filter}

@@ -1,6 +1,6 @@
 -- A core's octets are those of the world of its tape.
 use Rattle.exchange_core.specs.Flow.{Flow, last_place as send_place, octets_in}
-use Rattle.flow_gate.specs.declared.ids.FlowId.{FlowId}
+use Rattle.flow_rules.specs.declared.ids.FlowId.{FlowId}
 use Rattle.flow_laws.specs.Octets.{LosesNothing}
 use Rattle.flow_notes.specs.declared.events.Event.{Event}
 use Rattle.flow_notes.specs.declared.events.Event.TheVariants as event

@@ -9,7 +9,7 @@ use Rattle.wire_summary.specs.Levels.{Frames, SetsSides, SetsWrite, kept_sides, 
 use Rattle.wire_summary.specs.Places.{Side, Sides, bare, changed_at, framed, side_at, sides_of}
 use Rattle.wire_summary.specs.declared.levels.ExchangePlaces.{ExchangePlaces}
 use Rattle.wire_summary.specs.declared.levels.Levels.{Levels}
-use Rattle.flow_gate.specs.declared.ids.FlowId.{FlowId}
+use Rattle.flow_rules.specs.declared.ids.FlowId.{FlowId}
 use Rattle.io_ports.specs.declared.octets.NoMemory.{NoMemory}
 use Rattle.wire_summary.specs.declared.places.Change.{Change}
 use Rattle.wire_summary.specs.declared.levels.WriteChange.TheVariants as put

@@ -1,5 +1,5 @@
 -- The summary's text, from what the log of the tape shows.
-use Rattle.flow_gate.specs.declared.ids.FlowId.{FlowId}
+use Rattle.flow_rules.specs.declared.ids.FlowId.{FlowId}
 use Rattle.flow_notes.specs.Flow.{flow_word}
 use Rattle.std.proofs.Common.{ap, append_assoc, arith, refl, subst, sym, ◌∙◌}
 use Rattle.std.proofs.lemmas.Grind.{common_steps}
@@ -34,7 +34,7 @@ use Rattle.wire_summary.specs.declared.levels.ExchangePlaces.{ExchangePlaces}
 use Rattle.wire_summary.specs.declared.levels.Levels.{Levels}
 use Rattle.wire_summary.specs.declared.levels.WriteLevel.{WriteLevel}
 use Rattle.wire_summary.specs.declared.log.WireLog.{WireLog}
-use Rattle.flow_gate.specs.declared.ids.BufferId.TheVariants as buffer
+use Rattle.flow_rules.specs.declared.ids.BufferId.TheVariants as buffer
 
 module _ (limits : BufferLimits) (stages : FlowId → List StageKind) where
   -- ---- a buffer's peak is that of its place

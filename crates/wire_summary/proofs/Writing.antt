@@ -1,5 +1,5 @@
 -- The levels of write buffers, note by note.
-use Rattle.flow_gate.specs.declared.ids.FlowId.{FlowId}
+use Rattle.flow_rules.specs.declared.ids.FlowId.{FlowId}
 use Rattle.flow_notes.specs.declared.events.Event.{Event}
 use Rattle.flow_notes.specs.declared.notes.CloseCause.{CloseCause}
 use Rattle.flow_notes.specs.declared.notes.Note.{Note}
@@ -25,7 +25,7 @@ use Rattle.wire_summary.specs.declared.levels.BufferLimits.{BufferLimits}
 use Rattle.wire_summary.specs.declared.levels.Levels.{Levels}
 use Rattle.wire_summary.specs.declared.levels.WriteChange.{WriteChange}
 use Rattle.wire_summary.specs.declared.levels.WriteLevel.{WriteLevel}
-use Rattle.flow_gate.specs.declared.ids.BufferId.TheVariants as buffer
+use Rattle.flow_rules.specs.declared.ids.BufferId.TheVariants as buffer
 use Rattle.flow_notes.specs.declared.events.Event.TheVariants as event
 use Rattle.flow_notes.specs.declared.notes.CloseCause.TheVariants as closed
 use Rattle.flow_notes.specs.declared.notes.Note.TheVariants as note

@@ -1,5 +1,5 @@
 -- What a log of the lengths of a wire session's buffers stands for: the lengths that the definitions on tapes give, and their greatest so far.
-use Rattle.flow_gate.specs.declared.ids.FlowId.{FlowId}
+use Rattle.flow_rules.specs.declared.ids.FlowId.{FlowId}
 use Rattle.flow_notes.specs.declared.notes.CloseCause.{CloseCause}
 use Rattle.flow_notes.specs.declared.notes.Note.{Note}
 use Rattle.flow_notes.specs.declared.notes.Note.TheVariants as note
@@ -25,7 +25,7 @@ use Rattle.wire_summary.specs.declared.levels.ExchangePlaces.{ExchangePlaces}
 use Rattle.wire_summary.specs.declared.levels.Levels.{Levels}
 use Rattle.wire_summary.specs.declared.levels.WriteLevel.{WriteLevel}
 use Rattle.wire_summary.specs.declared.levels.WriteChange.{WriteChange}
-use Rattle.flow_gate.specs.declared.ids.BufferId.TheVariants as buffer
+use Rattle.flow_rules.specs.declared.ids.BufferId.TheVariants as buffer
 use Rattle.flow_notes.specs.declared.notes.CloseCause.TheVariants as closed
 use Rattle.wire_summary.specs.declared.places.Change.TheVariants as change
 use Rattle.wire_summary.specs.declared.levels.WriteChange.TheVariants as put

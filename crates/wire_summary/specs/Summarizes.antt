@@ -1,5 +1,5 @@
 -- What writing the summary of a wire session does to a text.
-use Rattle.flow_gate.specs.declared.ids.FlowId.{FlowId}
+use Rattle.flow_rules.specs.declared.ids.FlowId.{FlowId}
 use Rattle.flow_notes.specs.Flow.{flow_word}
 use Rattle.std.specs.BTreeMap.{get}
 use Rattle.std.specs.Fmt.{decimal}

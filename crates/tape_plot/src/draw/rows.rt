@@ -42,7 +42,7 @@ impl Rows {
     ghost use Rattle.tape_plot.specs.Sheets.{ExchangeDrawn, FlowDrawn, Grows, Has, LevelsDrawn, PlacesDrawn, WriteDrawn};
     ghost use Rattle.tape_plot.specs.Shown.{HasLine};
     ghost use Rattle.tape_plot.specs.declared.highest.Buffer.TheVariants as buffers;
-    ghost use Rattle.flow_gate.specs.declared.ids.BufferId.TheVariants as ids;
+    ghost use Rattle.flow_rules.specs.declared.ids.BufferId.TheVariants as ids;
 
     /// No rows. Takes no memory.
     pub fn new(alloc: Global, frame: Frame) -> Self

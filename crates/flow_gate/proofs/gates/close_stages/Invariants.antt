@@ -1,7 +1,7 @@
 use Rattle.flow_gate.proofs.Closing.{is_done}
 use Rattle.flow_gate.proofs.gates.close_stages.Given as goal
 use Rattle.flow_gate.specs.Parts.{buffer_at, kept}
-use Rattle.flow_gate.specs.declared.ids.BufferId.{BufferId}
+use Rattle.flow_rules.specs.declared.ids.BufferId.{BufferId}
 use Rattle.std.specs.Option.{option_map_or}
 use Rattle.std.specs.Prelude.{if◌then◌else◌, ◌+◌, ◌-◌, ◌^◌, ◌≡◌}
 

@@ -1,6 +1,6 @@
 use Rattle.flow_gate.proofs.gates.held_back.Given as goal
 use Rattle.flow_gate.specs.Parts.{AreWatches, held, watched_in}
-use Rattle.flow_gate.specs.declared.ids.FlowId.{FlowId}
+use Rattle.flow_rules.specs.declared.ids.FlowId.{FlowId}
 use Rattle.std.specs.Prelude.{take, ◌*◌, ◌≡◌, ◌≤◌}
 
 -- the count by the watches so far

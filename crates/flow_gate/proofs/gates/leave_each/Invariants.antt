@@ -1,8 +1,8 @@
 use Rattle.flow_gate.proofs.Leaving.{left_so_far}
 use Rattle.flow_gate.proofs.gates.leave_each.Given as goal
 use Rattle.flow_gate.specs.Parts.{AreWatches, buffer_at}
-use Rattle.flow_gate.specs.declared.ids.BufferId.{BufferId}
-use Rattle.flow_gate.specs.declared.ids.FlowId.{FlowId}
+use Rattle.flow_rules.specs.declared.ids.BufferId.{BufferId}
+use Rattle.flow_rules.specs.declared.ids.FlowId.{FlowId}
 use Rattle.std.specs.Prelude.{take, ◌≡◌}
 
 -- the flow left the lines of the watches so far

@@ -1,7 +1,7 @@
 use Rattle.flow_gate.proofs.Gaps.{all_stay, flow_goes, one_goes, places_stay}
 use Rattle.flow_gate.proofs.stands.leave.Goals as goal
 use Rattle.flow_gate.proofs.stands.leave.Goals.{else-i-stands-via-then-i-stands+then-stands-i+else-is_some, else-i-stands-via-then-i-stands+else-stands-i, else-i-stands-via-else-i-stands}
-use Rattle.flow_gate.specs.declared.ids.FlowId.{FlowId}
+use Rattle.flow_rules.specs.declared.ids.FlowId.{FlowId}
 use Rattle.std.proofs.Common.{arith, refl, sym, ◌∙◌}
 use Rattle.std.proofs.lemmas.Bool.{false≢true}
 use Rattle.std.specs.Prelude.{None, Option, Some, false, is_some, ◌≡◌}

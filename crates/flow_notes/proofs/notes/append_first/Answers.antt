@@ -2,7 +2,7 @@
 use Rattle.std.proofs.lemmas.Iterator.Consumers.{YieldsList-from_first}
 use Rattle.std.proofs.lemmas.Iterator.{YieldsList-from_take}
 use Rattle.std.specs.Prelude.{List, take}
-use Rattle.flow_gate.specs.declared.ids.FlowId.{FlowId}
+use Rattle.flow_rules.specs.declared.ids.FlowId.{FlowId}
 use Rattle.flow_notes.proofs.Rows.{all_appended}
 use Rattle.flow_notes.proofs.notes.append_first.Goals as goal
 

@@ -4,7 +4,7 @@ use Rattle.std.proofs.Common.{ap, refl, ◌∙◌}
 use Rattle.std.proofs.lemmas.List.{append-nil}
 use Rattle.std.specs.Prelude.{[], length}
 use Rattle.plain_core.proofs.Resumes.{all_still, none_wakes}
-use Rattle.flow_gate.specs.declared.ids.BufferId.TheVariants as buffer
+use Rattle.flow_rules.specs.declared.ids.BufferId.TheVariants as buffer
 use Rattle.plain_core.proofs.telling.all_told.Goals as goal
 
 pub returns : goal.returns

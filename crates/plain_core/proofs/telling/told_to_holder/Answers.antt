@@ -1,5 +1,5 @@
 -- The flows that are to be told, up to the first whose receive buffer holds octets.
-use Rattle.flow_gate.specs.declared.ids.FlowId.{FlowId}
+use Rattle.flow_rules.specs.declared.ids.FlowId.{FlowId}
 use Rattle.std.proofs.Common.{ap, append_assoc, arith, sym, ◌∙◌}
 use Rattle.std.proofs.lemmas.List.{length-append}
 use Rattle.std.specs.Prelude.{List, [], false, ◌++◌, ◌∷◌}

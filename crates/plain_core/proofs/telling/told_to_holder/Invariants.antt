@@ -4,7 +4,7 @@ use Rattle.std.specs.List.{AllByRecursion}
 use Rattle.std.specs.Prelude.{false}
 use Rattle.plain_core.specs.Carries.{Wakes}
 use Rattle.plain_core.specs.Gaps.{IsGap}
-use Rattle.flow_gate.specs.declared.ids.BufferId.TheVariants as buffer
+use Rattle.flow_rules.specs.declared.ids.BufferId.TheVariants as buffer
 use Rattle.plain_core.proofs.telling.told_to_holder.Given as goal
 
 abbrev pub invariant-loop-flow : goal.invariant-loop-flow

@@ -1,6 +1,6 @@
 use Rattle.exchange_core.specs.Exchange.{filters_of, flow_id, side_filters}
 use Rattle.flow_gate.specs.Changes.{Forgets}
-use Rattle.flow_gate.specs.declared.ids.FlowId.{FlowId}
+use Rattle.flow_rules.specs.declared.ids.FlowId.{FlowId}
 use Rattle.std.proofs.Common.{ap, subst, sym, ◌∙◌}
 use Rattle.std.specs.Prelude.{Some, false, true}
 use Rattle.wire_flows.proofs.Opening.{both_begin, request_back, response_fresh}

@@ -1,4 +1,4 @@
-use Rattle.flow_gate.specs.declared.ids.FlowId.{FlowId}
+use Rattle.flow_rules.specs.declared.ids.FlowId.{FlowId}
 use Rattle.std.proofs.Common.{ap, refl, sym}
 use Rattle.std.specs.Prelude.{List, ◌++◌}
 use Rattle.wire_flows.specs.Writes.{watchers_on}

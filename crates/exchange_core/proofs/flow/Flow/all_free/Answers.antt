@@ -4,7 +4,7 @@ use Rattle.exchange_core.proofs.flow.Flow.all_free.Goals.{else-n-gt0-via-else-n-
 use Rattle.exchange_core.specs.Flow.{last_place}
 use Rattle.exchange_core.specs.Kept.{flow_of}
 use Rattle.exchange_core.specs.Moves.{lets_go}
-use Rattle.flow_gate.specs.declared.ids.BufferId.TheVariants as buffer
+use Rattle.flow_rules.specs.declared.ids.BufferId.TheVariants as buffer
 use Rattle.std.proofs.Common.{ap, arith, false, sym, true, ◌≡◌, ◌∙◌}
 use Rattle.std.specs.Prelude.{min}
 

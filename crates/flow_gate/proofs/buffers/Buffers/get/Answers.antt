@@ -1,6 +1,6 @@
 use Rattle.flow_gate.proofs.ByBuffer.{read}
 use Rattle.flow_gate.proofs.buffers.Buffers.get.Goals as goal
-use Rattle.flow_gate.specs.declared.ids.BufferId.TheVariants.{Recv, Send, Stage, Write}
+use Rattle.flow_rules.specs.declared.ids.BufferId.TheVariants.{Recv, Send, Stage, Write}
 use Rattle.std.proofs.Common.{sym, ◌∙◌}
 
 pub returns-in-Write : goal.returns-in-Write

@@ -1,7 +1,7 @@
 use Rattle.flow_gate.proofs.ByBuffer.{read, recv_written, send_written, stage_written, write_written}
 use Rattle.flow_gate.proofs.buffers.Buffers.get_mut.Goals as goal
 use Rattle.flow_gate.specs.Named.{all_of}
-use Rattle.flow_gate.specs.declared.ids.BufferId.TheVariants.{Recv, Send, Stage, Write}
+use Rattle.flow_rules.specs.declared.ids.BufferId.TheVariants.{Recv, Send, Stage, Write}
 use Rattle.std.proofs.Common.{ap, refl, sym, ◌∙◌}
 
 pub returns-in-Write : goal.returns-in-Write

@@ -1,6 +1,6 @@
 use Rattle.flow_gate.proofs.ByBuffer.{read, recv_updated, send_updated, stage_updated, write_updated}
 use Rattle.flow_gate.proofs.buffers.Buffers.remove.Goals as goal
-use Rattle.flow_gate.specs.declared.ids.BufferId.TheVariants.{Recv, Send, Stage, Write}
+use Rattle.flow_rules.specs.declared.ids.BufferId.TheVariants.{Recv, Send, Stage, Write}
 use Rattle.std.proofs.Common.{sym, ◌∙◌}
 use Rattle.std.specs.Prelude.{None}
 

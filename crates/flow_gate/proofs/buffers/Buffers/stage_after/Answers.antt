@@ -6,8 +6,8 @@ use Rattle.flow_gate.proofs.buffers.Buffers.stage_after.Goals.{After-stage_of}
 use Rattle.flow_gate.specs.Line.{Line}
 use Rattle.flow_gate.specs.Named.{all_of, as_buffer}
 use Rattle.flow_gate.specs.Parts.{bound_after, buffer_at}
-use Rattle.flow_gate.specs.declared.ids.BufferId.TheVariants.{Stage}
-use Rattle.flow_gate.specs.declared.ids.StageId.{StageId}
+use Rattle.flow_rules.specs.declared.ids.BufferId.TheVariants.{Stage}
+use Rattle.flow_gate.specs.declared.buffers.StageId.{StageId}
 use Rattle.std.proofs.Common.{ap, rules, subst, sym, ◌∙◌}
 use Rattle.std.specs.BTreeMap.{is_at}
 use Rattle.std.specs.BTreeMap.Range.{IsEntryInRange, IsInRange, IsLeBy}

@@ -2,7 +2,7 @@
 use Rattle.flow_gate.proofs.Full.{few_live}
 use Rattle.flow_gate.proofs.line.Watchers.most.Goals as goal
 use Rattle.flow_gate.specs.Line.{live}
-use Rattle.flow_gate.specs.declared.ids.FlowId.{FlowId}
+use Rattle.flow_rules.specs.declared.ids.FlowId.{FlowId}
 use Rattle.std.proofs.Common.{arith}
 use Rattle.std.proofs.lemmas.List.{length-append, length-map}
 use Rattle.std.specs.Map.{values_of}

@@ -3,7 +3,7 @@ use Rattle.exchange_core.specs.Changes.{Starts}
 use Rattle.flow_gate.specs.Board.{is_open as is_there, times, watchers_of}
 use Rattle.std.proofs.Common.{ap, subst, ◌∙◌}
 use Rattle.tape_laws.specs.Flows.{request}
-use Rattle.flow_gate.specs.declared.ids.BufferId.TheVariants as buffer
+use Rattle.flow_rules.specs.declared.ids.BufferId.TheVariants as buffer
 use Rattle.plain_core.proofs.FlowBegins.{begins, shut, unwatched}
 use Rattle.plain_core.proofs.flows.Flows.begin.Goals as goal
 use Rattle.exchange_core.specs.Changes.{number_for}

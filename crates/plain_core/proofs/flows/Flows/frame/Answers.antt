@@ -11,7 +11,7 @@ use Rattle.tape_laws.specs.Flows.{request}
 use Rattle.wm_buffer.specs.Buffer.{AppendsOctets}
 use Rattle.wm_buffer.specs.Watermark.{crossing}
 use Rattle.plain_core.specs.declared.flows.Flows.{Flows}
-use Rattle.flow_gate.specs.declared.ids.BufferId.TheVariants as buffer
+use Rattle.flow_rules.specs.declared.ids.BufferId.TheVariants as buffer
 use Rattle.plain_core.proofs.FlowFrames.{drain_allowed, frame_less, frames_all, next_octets, next_small, rise_allowed}
 use Rattle.plain_core.proofs.FlowParts.{room_is}
 use Rattle.plain_core.proofs.FlowUnits.{piece_seen, unit_named}

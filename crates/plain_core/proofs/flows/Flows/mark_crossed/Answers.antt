@@ -3,7 +3,7 @@ use Rattle.std.proofs.Common.{ap, refl, rules, subst, sym, ◌∙◌}
 use Rattle.std.specs.Prelude.{◌≡◌}
 use Rattle.wm_buffer.specs.declared.watermark.Crossed.TheVariants as crossed
 use Rattle.plain_core.specs.declared.flows.Flows.{Flows}
-use Rattle.flow_gate.specs.declared.ids.BufferId.TheVariants as buffer
+use Rattle.flow_rules.specs.declared.ids.BufferId.TheVariants as buffer
 use Rattle.plain_core.proofs.FlowMarks.{RisesOrSame, drains_tells, not_high, not_low, risen, unrisen}
 use Rattle.plain_core.proofs.flows.Flows.mark_crossed.Goals as goal
 use Rattle.plain_core.proofs.flows.Flows.mark_crossed.Goals.{else-rose, then-rose}

@@ -6,7 +6,7 @@ use Rattle.exchange_core.specs.declared.step.Step.{Step as MoveStep}
 use Rattle.flow_rules.specs.declared.unit.Unit.{Unit as NextUnit}
 use Rattle.flow_gate.specs.Board.{is_known, is_marked, is_open as is_there}
 use Rattle.flow_gate.specs.Changes.{Rises}
-use Rattle.flow_gate.specs.declared.ids.FlowId.{FlowId}
+use Rattle.flow_rules.specs.declared.ids.FlowId.{FlowId}
 use Rattle.plain_laws.proofs.Counts.{is_live_is}
 use Rattle.std.proofs.Common.{ap, refl, rules, subst, sym, ◌∙◌}
 use Rattle.std.specs.BTreeMap.{get}
@@ -16,7 +16,7 @@ use Rattle.tape_laws.specs.Flows.{request}
 use Rattle.wm_buffer.specs.declared.watermark.Crossed.TheVariants as crossed
 use Rattle.plain_core.specs.Flows.{piece_of}
 use Rattle.plain_core.specs.declared.flows.Flows.{Flows}
-use Rattle.flow_gate.specs.declared.ids.BufferId.TheVariants as buffer
+use Rattle.flow_rules.specs.declared.ids.BufferId.TheVariants as buffer
 use Rattle.plain_core.proofs.FlowSteps.{RisesSend, found_lives, high_allowed, idle_less_all, idles_all, moves_all, no_step, stay_less_all, stays_all, step_found}
 use Rattle.plain_core.proofs.FlowParts.{room_is}
 use Rattle.plain_core.proofs.FlowUnits.{piece_seen, unit_named}

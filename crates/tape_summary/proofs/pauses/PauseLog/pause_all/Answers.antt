@@ -1,6 +1,6 @@
 -- Flow after flow is taken up.
 use Rattle.std.proofs.Common.{◌++◌, ◌∷◌, [], List, ap, map, refl, ◌∙◌}
-use Rattle.flow_gate.specs.declared.ids.FlowId.{FlowId}
+use Rattle.flow_rules.specs.declared.ids.FlowId.{FlowId}
 use Rattle.tape_summary.proofs.Pausing.{all_logged, logs_more, logs_none, none_left, one_more}
 use Rattle.flow_notes.specs.declared.notes.Note.TheVariants as note
 use Rattle.tape_summary.proofs.pauses.PauseLog.pause_all.Goals as goal

@@ -3,7 +3,7 @@ use Rattle.wire_flows.proofs.Finals.{write_none}
 use Rattle.wire_flows.proofs.Writing.{go_untold}
 use Rattle.std.proofs.Common.{sym, ◌∙◌}
 use Rattle.std.specs.Prelude.{None}
-use Rattle.flow_gate.specs.declared.ids.BufferId.TheVariants as buffer
+use Rattle.flow_rules.specs.declared.ids.BufferId.TheVariants as buffer
 use Rattle.wire_flows.proofs.flows.WireFlows.close_write.Goals as goal
 use Rattle.wire_flows.specs.Flows.{flows_of}
 

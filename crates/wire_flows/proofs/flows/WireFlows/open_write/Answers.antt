@@ -1,6 +1,6 @@
 use Rattle.exchange_core.proofs.Outcomes.{either, on_ok}
 use Rattle.flow_gate.specs.Board.{pending_on}
-use Rattle.flow_gate.specs.declared.ids.BufferId.TheVariants as buffer
+use Rattle.flow_rules.specs.declared.ids.BufferId.TheVariants as buffer
 use Rattle.std.proofs.Common.{ap, sym, ◌∙◌}
 use Rattle.wire_flows.proofs.Boards.{opens}
 use Rattle.wire_flows.proofs.Finals.{known_write, write_none}

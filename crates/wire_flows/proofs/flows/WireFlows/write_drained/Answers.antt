@@ -1,5 +1,5 @@
 use Rattle.flow_gate.specs.Board.{is_marked, pending_on}
-use Rattle.flow_gate.specs.declared.ids.FlowId.{FlowId}
+use Rattle.flow_rules.specs.declared.ids.FlowId.{FlowId}
 use Rattle.std.proofs.Common.{ap, refl, sym, ◌∙◌}
 use Rattle.std.specs.Prelude.{Bool, List, [], false, length, ◌&&◌, ◌==◌, ◌≡◌, ◌∷◌, ◌↔◌}
 use Rattle.wire_flows.proofs.Boards.{changes_none, drained_already, drains}
@@ -9,7 +9,7 @@ use Rattle.wire_flows.proofs.flows.WireFlows.write_drained.Goals as goal
 use Rattle.wire_flows.proofs.flows.WireFlows.write_drained.Goals.{else-is_marked-via-else-is_marked, else-is_marked-via-then-is_marked+else-not-has_pending}
 use Rattle.wire_flows.specs.Flows.{flows_of}
 use Rattle.wire_flows.specs.Writes.{watchers_on}
-use Rattle.flow_gate.specs.declared.ids.BufferId.TheVariants as buffer
+use Rattle.flow_rules.specs.declared.ids.BufferId.TheVariants as buffer
 
 pub returns-then-not-has_pending-clause-drains : goal.returns-then-not-has_pending-clause-drains
 returns-then-not-has_pending-clause-drains c = rw (← c.self.view_is)

@@ -1,5 +1,4 @@
 // What names a flow and a buffer.
-ghost use Rattle.flow_gate.specs.Parts.{stage_of};
 ghost use Rattle.std.specs.Prelude.{◌≡◌};
 
 /// A flow: the request of an exchange, or its response, which goes back.
@@ -41,22 +40,4 @@ pub enum BufferId {
     Recv(FlowId),
     Stage(FlowId, u32),
     Send(FlowId),
-}
-
-/// A stage of a flow.
-#[derive(Clone, Copy, PartialEq, Eq, PartialOrd, Ord)]
-pub(crate) struct StageId {
-    pub(crate) flow: FlowId,
-    pub(crate) stage: u32,
-}
-
-/// The number of a stage, where it is one of this flow.
-pub(crate) fn stage_of(flow: FlowId, stage: StageId) -> Option<u32>
-    ensures { result ≡ stage_of flow stage }
-{
-    if stage.flow == flow {
-        Some(stage.stage)
-    } else {
-        None
-    }
 }
