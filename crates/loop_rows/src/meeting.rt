@@ -15,6 +15,7 @@ use std::alloc::Global;
 use std::sync::atomic::{AtomicBool, AtomicU32, AtomicU64};
 use std::sync::{Arc, Wait};
 use std::thread::Threads;
+use wire_steps::WireSteps;
 use worker_threads::{Shared, start_workers};
 
 /// How many turns each runs.
@@ -69,7 +70,7 @@ fn start<R: Threads + Wait + Sync>(
     ensures len { length workers.new ≡ length workers.old }
     ensures each { (i : ℕ) (w : _) → i < length workers.old → Holds shared.now.permits (slice_index_or workers.new i w).seat (slice_index_or workers.new i w).held }
 {
-    match start_workers(rt, alloc, shared, workers, TURNS) {
+    match start_workers(rt, alloc, &WireSteps, shared, workers, TURNS) {
         Ok(_) => true,
         Err(NoMemory) => false,
     }

@@ -25,6 +25,7 @@ use shared_tokens::{Bucket, TokenSeat};
 use std::alloc::Global;
 use std::sync::Wait;
 use std::thread::Threads;
+use wire_steps::WireSteps;
 use worker_core::Core;
 use worker_loop::{Ended, HeldPermits, begin_journal, work};
 use worker_ports::Wires;
@@ -252,6 +253,7 @@ fn run_once<R: AllocGlobal + Wait, W: Wires>(
     work(
         rt,
         rt.alloc(),
+        &WireSteps,
         core,
         &desk.posts,
         &mut desk.pass,

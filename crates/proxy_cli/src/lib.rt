@@ -19,6 +19,7 @@ use std::rt::Files;
 use std::sync::{Arc, Wait};
 use std::thread::Threads;
 use std::time::Clock;
+use wire_steps::WireSteps;
 pub use tell::tell_served;
 
 /// Does what the words ask for, with what the proxy says on the output, and answers the exit code of its status. Why it
@@ -95,7 +96,16 @@ where
 {
     let mut config = Input::new(open_config(rt, words));
     let mut out = Output::new(output);
-    let served = serve_proxy(rt, rt.alloc(), words, &mut config, site, gauge, &mut out);
+    let served = serve_proxy(
+        rt,
+        rt.alloc(),
+        &WireSteps,
+        words,
+        &mut config,
+        site,
+        gauge,
+        &mut out,
+    );
     let code = ExitCode::from(served.status.code());
     tell_served(
         rt,

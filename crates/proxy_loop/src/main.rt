@@ -62,6 +62,7 @@ use std::rt::Files;
 use std::sync::{Arc, Wait};
 use std::thread::Threads;
 use std::time::Clock;
+use wire_steps::WireSteps;
 
 /// Within so many turns all octets are back.
 const RELAY_TURNS: &str = "2000";
@@ -287,6 +288,7 @@ where
     let served = serve_proxy(
         rt,
         rt.alloc(),
+        &WireSteps,
         play.words.as_slice(),
         &mut play.config,
         site,

@@ -16,15 +16,17 @@ use std::sync::Wait;
 use std::sync::atomic::Ordering;
 use std::thread::{Threads, join_mut};
 use std::time::Clock as SystemClock;
+use wire_state::CarryOut;
 use worker_loop::Ended;
 use worker_parts::Journal;
 use worker_ports::{Clock, Gauge, OpenGate, Wires};
 use worker_threads::{Shared, Worker, start_workers};
 
 /// Runs so many turns of each worker, and beside them the loop that leads them. It answers how each ended, and why the loop did.
-pub(crate) fn run_beside<R, W, C, L, T, P, G>(
+pub(crate) fn run_beside<R, W, C, L, T, P, G, D>(
     rt: &R,
     alloc: Global,
+    carry: &D,
     task: &Task<'_>,
     shared: &Shared,
     leader: &mut Leader,
@@ -35,6 +37,7 @@ pub(crate) fn run_beside<R, W, C, L, T, P, G>(
 ) -> (Result<Vec<Ended>, NoMemory>, LoopEnd)
 where
     R: Threads + Wait + SystemClock + Sync,
+    D: CarryOut + Sync,
     W: Wires + Send,
     C: Clock + Send,
     L: Journal + Send,
@@ -58,7 +61,7 @@ where
         shared,
         &|lent: &mut [Worker<W, C, OpenGate, L>]|
             requires { (i : ℕ) (w : _) → i < length lent.now → IsReady (outside_of W.Wires C.moments L.contents L.told L.faults) shared.now i (slice_index_or lent.now i w) }
-        { run_out(rt, alloc, shared, turns, lent) },
+        { run_out(rt, alloc, carry, shared, turns, lent) },
         leader,
         tokens,
         site,
@@ -117,15 +120,17 @@ fn call<V, F: Fn(&mut [V]) -> Result<Vec<Ended>, NoMemory>>(
 }
 
 // Runs the workers, and then tells the loop that they have ended, however they did.
-fn run_out<R, W, C, L>(
+fn run_out<R, W, C, L, D>(
     rt: &R,
     alloc: Global,
+    carry: &D,
     shared: &Shared,
     turns: u64,
     workers: &mut [Worker<W, C, OpenGate, L>],
 ) -> Result<Vec<Ended>, NoMemory>
 where
     R: Threads + Wait + Sync,
+    D: CarryOut + Sync,
     W: Wires + Send,
     C: Clock + Send,
     L: Journal + Send,
@@ -133,7 +138,7 @@ where
     ensures ok { IfOk result (λ ends. WorkedEach (outside_of W.Wires C.moments L.contents L.told L.faults) shared.now turns workers.old ends.items workers.new) }
     ensures err { OnErr result (workers.new ≡ workers.old) }
 {
-    let ends = start_workers(rt, alloc, shared, workers, turns);
+    let ends = start_workers(rt, alloc, carry, shared, workers, turns);
     shared.over.store(true, Ordering::SeqCst);
     ends
 }

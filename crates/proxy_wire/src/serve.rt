@@ -22,6 +22,7 @@ use std::alloc::Global;
 use std::sync::Wait;
 use std::thread::Threads;
 use std::time::Clock;
+use wire_state::CarryOut;
 use worker_ports::Gauge;
 
 /// How the proxy ended, and why.
@@ -45,9 +46,10 @@ pub enum ProxyReason {
 /// `listening ADDRESS` is written to `out`; a configuration that is refused is told there in a line. Other words read and write
 /// nothing.
 #[tactic(auto, using(crate::proofs::Asked::has_none))]
-pub fn serve_proxy<R, S, T, G, K>(
+pub fn serve_proxy<R, S, T, G, K, D>(
     rt: &R,
     alloc: Global,
+    carry: &D,
     words: &[String],
     config: &mut S,
     site: &mut T,
@@ -56,6 +58,7 @@ pub fn serve_proxy<R, S, T, G, K>(
 ) -> ProxyServed
 where
     R: Threads + Wait + Clock + Sync,
+    D: CarryOut + Sync,
     S: Source,
     T: WireSite,
     T::W: Send,
@@ -73,7 +76,7 @@ where
 {
     match read_proxy_form(words) {
         Some(ProxyForm::Wire { turns }) => {
-            serve_workers(rt, alloc, turns, config, site, gauge, out)
+            serve_workers(rt, alloc, carry, turns, config, site, gauge, out)
         }
         Some(ProxyForm::Relay { .. }) => {
             let served = serve_with_reason(alloc, words, config, site, out);
@@ -91,9 +94,10 @@ where
 
 // Reads the configuration, and runs its workers.
 #[tactic(auto, using(crate::proofs::Whole::unread, crate::proofs::Whole::served_whole, crate::proofs::Whole::short_text, crate::proofs::Whole::is_task, crate::proofs::Whole::fault_read, crate::proofs::Whole::fault_other, crate::proofs::Whole::out_fault))]
-fn serve_workers<R, S, T, G, K>(
+fn serve_workers<R, S, T, G, K, D>(
     rt: &R,
     alloc: Global,
+    carry: &D,
     turns: u64,
     source: &mut S,
     site: &mut T,
@@ -102,6 +106,7 @@ fn serve_workers<R, S, T, G, K>(
 ) -> ProxyServed
 where
     R: Threads + Wait + Clock + Sync,
+    D: CarryOut + Sync,
     S: Source,
     T: WireSite,
     T::W: Send,
@@ -126,7 +131,7 @@ where
                 text: text.as_slice(),
                 turns,
             };
-            serve_under(rt, alloc, &task, site, gauge, out)
+            serve_under(rt, alloc, carry, &task, site, gauge, out)
         }
         Err(fault) => end_without(alloc, refused(fault), out),
     }
@@ -134,9 +139,10 @@ where
 
 // Runs the workers under a configuration.
 #[tactic(auto, using(crate::proofs::Whole::wire_no_usage, crate::proofs::Whole::wire_no_read, crate::proofs::Served::so_served, crate::proofs::Served::so_caused))]
-fn serve_under<R, T, G, K>(
+fn serve_under<R, T, G, K, D>(
     rt: &R,
     alloc: Global,
+    carry: &D,
     task: &Task<'_>,
     site: &mut T,
     gauge: &mut G,
@@ -144,6 +150,7 @@ fn serve_under<R, T, G, K>(
 ) -> ProxyServed
 where
     R: Threads + Wait + Clock + Sync,
+    D: CarryOut + Sync,
     T: WireSite,
     T::W: Send,
     T::C: Send,
@@ -157,7 +164,7 @@ where
     ensures told { result.status ≡ proxy_status result.reason }
     ensures write_fault { SiteOrOut result.status (T.faults site.old) (T.faults site.new) (K.faults out.old) (K.faults out.new) }
 {
-    let end = serve_wire(rt, alloc, task, site, gauge, out);
+    let end = serve_wire(rt, alloc, carry, task, site, gauge, out);
     ProxyServed {
         status: end.status(),
         reason: ProxyReason::Wire(end),

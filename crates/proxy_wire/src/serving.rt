@@ -23,14 +23,16 @@ use std::alloc::Global;
 use std::sync::Wait;
 use std::thread::Threads;
 use std::time::Clock;
+use wire_state::CarryOut;
 use worker_ports::Gauge;
 
 /// Listens, and runs so many turns of each worker, while clients are accepted and gauges read beside them. What a worker was given
 /// to work over goes back to the site in any case.
 #[tactic(auto, using(crate::proofs::Served::not_listened, crate::proofs::Posting::leads_none))]
-pub(crate) fn serve_wire<R, T, G, K>(
+pub(crate) fn serve_wire<R, T, G, K, D>(
     rt: &R,
     alloc: Global,
+    carry: &D,
     task: &Task<'_>,
     site: &mut T,
     gauge: &mut G,
@@ -38,6 +40,7 @@ pub(crate) fn serve_wire<R, T, G, K>(
 ) -> WireEnd
 where
     R: Threads + Wait + Clock + Sync,
+    D: CarryOut + Sync,
     T: WireSite,
     T::W: Send,
     T::C: Send,
@@ -69,16 +72,17 @@ where
         next: None,
     };
     let staff = Staff { shared, supply };
-    let end = listen_and_run(rt, alloc, task, staff, &mut leader, site, gauge, out);
+    let end = listen_and_run(rt, alloc, carry, task, staff, &mut leader, site, gauge, out);
     leader.end(rt);
     end
 }
 
 // Listens, and runs the workers.
 #[tactic(auto, using(crate::proofs::Served::not_listened, crate::proofs::Served::fault_later))]
-fn listen_and_run<R, T, G, K>(
+fn listen_and_run<R, T, G, K, D>(
     rt: &R,
     alloc: Global,
+    carry: &D,
     task: &Task<'_>,
     staff: Staff<Unmetered>,
     leader: &mut Leader,
@@ -88,6 +92,7 @@ fn listen_and_run<R, T, G, K>(
 ) -> WireEnd
 where
     R: Threads + Wait + Clock + Sync,
+    D: CarryOut + Sync,
     T: WireSite,
     T::W: Send,
     T::C: Send,
@@ -114,17 +119,18 @@ where
         }
     };
     if config.proxy.accept_rate == 0 {
-        run(rt, alloc, task, &address, staff, leader, site, gauge, out)
+        run(rt, alloc, carry, task, &address, staff, leader, site, gauge, out)
     } else {
-        limit_and_run(rt, alloc, task, &address, staff, leader, site, gauge, out)
+        limit_and_run(rt, alloc, carry, task, &address, staff, leader, site, gauge, out)
     }
 }
 
 // Runs the workers, whose connections of clients take tokens of a bucket.
 #[tactic(auto, using(crate::proofs::Sharing::new_takers, crate::proofs::Sharing::staff_kept, crate::proofs::Sharing::leads_kept, crate::proofs::Running::none_begun))]
-fn limit_and_run<R, T, G, K>(
+fn limit_and_run<R, T, G, K, D>(
     rt: &R,
     alloc: Global,
+    carry: &D,
     task: &Task<'_>,
     address: &Octets,
     staff: Staff<Unmetered>,
@@ -135,6 +141,7 @@ fn limit_and_run<R, T, G, K>(
 ) -> WireEnd
 where
     R: Threads + Wait + Clock + Sync,
+    D: CarryOut + Sync,
     T: WireSite,
     T::W: Send,
     T::C: Send,
@@ -161,7 +168,7 @@ where
         put,
     };
     let staff = metered(staff, meter);
-    run(rt, alloc, task, address, staff, leader, site, gauge, out)
+    run(rt, alloc, carry, task, address, staff, leader, site, gauge, out)
 }
 
 // One pressure of 0 for each resource.

@@ -27,14 +27,16 @@ use std::alloc::Global;
 use std::sync::Wait;
 use std::thread::Threads;
 use std::time::Clock;
+use wire_state::CarryOut;
 use worker_ports::{Gauge, OpenGate};
 use worker_threads::{Shared, Worker};
 
 /// Fits the configuration's workers, runs so many turns of each, and gives back what they worked over.
 #[tactic(auto, using(crate::proofs::Running::pool_back, crate::proofs::Running::none_begun, crate::proofs::Running::fault_of_one))]
-pub(crate) fn run<R, T, M, G, K>(
+pub(crate) fn run<R, T, M, G, K, D>(
     rt: &R,
     alloc: Global,
+    carry: &D,
     task: &Task<'_>,
     address: &Octets,
     staff: Staff<M>,
@@ -45,6 +47,7 @@ pub(crate) fn run<R, T, M, G, K>(
 ) -> WireEnd
 where
     R: Threads + Wait + Clock + Sync,
+    D: CarryOut + Sync,
     T: WireSite,
     M: Meter<T::W> + Drop,
     M::Metered: Send,
@@ -70,6 +73,7 @@ where
     let end = work_pool(
         rt,
         alloc,
+        carry,
         task,
         address,
         &mut supply,
@@ -88,9 +92,10 @@ where
 
 // Fits the workers, and runs them.
 #[tactic(auto, using(crate::proofs::Running::idle_paid_of, crate::proofs::Running::cause_hired))]
-fn work_pool<R, T, M, G, K>(
+fn work_pool<R, T, M, G, K, D>(
     rt: &R,
     alloc: Global,
+    carry: &D,
     task: &Task<'_>,
     address: &Octets,
     supply: &mut Supply<M>,
@@ -102,6 +107,7 @@ fn work_pool<R, T, M, G, K>(
 ) -> WireEnd
 where
     R: Threads + Wait + Clock + Sync,
+    D: CarryOut + Sync,
     T: WireSite,
     M: Meter<T::W>,
     M::Metered: Send,
@@ -126,6 +132,7 @@ where
         Ok(()) => work_all(
             rt,
             alloc,
+            carry,
             task,
             address,
             &pool.shared,
@@ -142,9 +149,10 @@ where
 
 // Runs workers that are fitted, once it is told where the proxy listens.
 #[tactic(auto, using(crate::proofs::Running::works_none))]
-fn work_all<R, T, M, G, K>(
+fn work_all<R, T, M, G, K, D>(
     rt: &R,
     alloc: Global,
+    carry: &D,
     task: &Task<'_>,
     address: &Octets,
     shared: &Shared,
@@ -157,6 +165,7 @@ fn work_all<R, T, M, G, K>(
 ) -> WireEnd
 where
     R: Threads + Wait + Clock + Sync,
+    D: CarryOut + Sync,
     T: WireSite,
     M: Meter<T::W>,
     M::Metered: Send,
@@ -177,7 +186,7 @@ where
     }
     leader.look(rt, alloc, task.config, gauge, shared.posts.as_slice());
     meter.put(task.config.proxy.accept_rate);
-    let (ends, led) = run_beside(rt, alloc, task, shared, leader, meter, site, gauge, workers);
+    let (ends, led) = run_beside(rt, alloc, carry, task, shared, leader, meter, site, gauge, workers);
     end_of(ends, led)
 }
 

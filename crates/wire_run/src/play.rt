@@ -13,6 +13,7 @@ use session_lines::{LineRead, WireLines};
 use session_run::{Player, Went};
 use std::alloc::Global;
 use tape_summary::append_notes;
+use wire_steps::WireSteps;
 use wire_summary::{BufferLimits, WireLog, write_wire_summary};
 use worker_core::WireSession;
 
@@ -91,7 +92,7 @@ impl WirePlay {
         ensures { OnOk result (CarriesOn self.old event.now self.new) }
     {
         self.notes.clear();
-        let Ok(()) = self.session.dispatch(event, &mut self.notes) else {
+        let Ok(()) = self.session.dispatch(&WireSteps, event, &mut self.notes) else {
             return Err(NoMemory);
         };
         pass_all(&self.notes, &self.session, &self.stages, &mut self.log)?;

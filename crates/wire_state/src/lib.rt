@@ -23,7 +23,7 @@ mod wire_core;
 pub use crate::agenda::{Agenda, Task};
 pub use crate::conn::{Conn, is_stream};
 pub use crate::course::Course;
-pub use crate::noting::{note, note_answer, note_head, note_pauses};
+pub use crate::noting::{CarryOut, note, note_answer, note_head, note_pauses};
 pub use crate::ready::Ready;
 pub use crate::stirred::Stirred;
 pub use crate::units::NextUnit;

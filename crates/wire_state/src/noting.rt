@@ -1,13 +1,31 @@
-// The notes of small steps. Each appends notes that have a spelling and begin no dispatch, also where memory is refused.
+// What carries events out, and the notes of small steps. Each of these appends notes that have a spelling and begin no dispatch, also where memory is refused.
 ghost use Rattle.std.specs.Prelude.{◌≡◌, ◌++◌, ◌∷◌, [], OnOk};
 ghost use Rattle.wire_flows.specs.Writes.{watchers_on};
 ghost use Rattle.wire_state.specs.Noting.{Appends, IsStep, answers_of, heads_of, pauses_of};
 ghost use Rattle.wire_state.specs.Worlds.{IsIdle, Pays, Shows};
 
+use crate::wire_core::WireCore;
 use flow_gate::BufferId;
-use flow_notes::{Note, Notes};
+use flow_notes::{Event, Note, Notes};
 use io_ports::{NoMemory, Octets};
 use wire_flows::WireFlows;
+
+/// What carries an event out on the core of wire sessions, behind the turn note: its effect, small steps until nothing is left to
+/// do, and the sweep. Who drives a core is given one, and so stands on none of what comes in and goes out.
+pub trait CarryOut {
+    /// Carries the event out, and appends the notes of what is done. The core is sound behind it, unless memory is refused: then
+    /// the notes so far stand.
+    fn carry_out(
+        &self,
+        core: &mut WireCore,
+        event: &Event,
+        notes: &mut Notes,
+    ) -> Result<(), NoMemory>
+        requires sound { IsSound core.old }
+        ensures sound { OnOk result (IsSound core.new) }
+        ensures notes { Appends notes.old notes.new }
+        ensures octets { Turns result event.now core.old notes.old core.new notes.new };
+}
 
 /// Writes a note.
 #[inline(always)]

@@ -1,8 +1,6 @@
 //! The core of a worker's sessions: one dispatch an event, each carried to its end by small steps.
 #![tactic(auto)]
 
-mod rounds;
-mod steps;
 mod wire;
 mod worker;
 

@@ -3,22 +3,19 @@ ghost use Rattle.proxy_config.specs.Ranges.{IsInRange};
 ghost use Rattle.std.specs.Prelude.{◌≡◌, ◌≢◌, ◌++◌, ◌+◌, ◌<◌, ◌∷◌, [], Err, IfOk, OnErr, OnOk, false, not, true, ℕ};
 ghost use Rattle.flow_notes.specs.declared.notes.Note.TheVariants as note;
 ghost use Rattle.wire_state.specs.Courses.{row_of};
-ghost use Rattle.wire_state.specs.Noting.{Appends};
 ghost use Rattle.wire_state.specs.Sound.{IsSound, is_open_at};
 ghost use Rattle.overload_core.specs.ActionStates.{is_saturated};
 ghost use Rattle.worker_core.specs.Dispatching.{Breaks, Dispatches, Tells, obeyed_after};
 ghost use Rattle.worker_core.specs.Fronts.{IsFront, IsLeastAbove, has_octets, is_there, octets_at};
 ghost use Rattle.wire_state.specs.Worlds.{Follows, Rests, TurnsAnew};
 
-use crate::steps::settle;
 use flow_notes::{Event, Note, Notes};
 use io_ports::NoMemory;
 use plain_core::CoreFault;
 use proxy_config::Config;
 use std::alloc::Global;
 use wire_load::Action;
-use wire_state::WireCore;
-use wire_turns::{rest, sweep, take_event};
+use wire_state::{CarryOut, WireCore};
 
 /// The greatest number of a dispatch.
 const LAST_TURN: u64 = (1 << 63) - 1;
@@ -63,7 +60,12 @@ impl WireSession {
 
     /// Dispatches one event, and appends its notes. After running out of memory the notes so far stand, and each later call answers
     /// `Failed`, which comes only then.
-    pub fn dispatch(&mut self, event: &Event, notes: &mut Notes) -> Result<(), CoreFault>
+    pub fn dispatch<D: CarryOut>(
+        &mut self,
+        carry: &D,
+        event: &Event,
+        notes: &mut Notes,
+    ) -> Result<(), CoreFault>
         requires { self.old.failed ≡ false → IsSound self.old.core }
         ensures ok { OnOk result (Dispatches self.old notes.old event.now self.new notes.new) }
         ensures cut { Breaks self.old notes.old event.now notes.new }
@@ -74,7 +76,7 @@ impl WireSession {
         if self.failed {
             return Err(CoreFault::Failed);
         }
-        match self.carry_out(event, notes) {
+        match self.carry_out(carry, event, notes) {
             Ok(()) => Ok(()),
             Err(NoMemory) => {
                 self.failed = true;
@@ -85,7 +87,12 @@ impl WireSession {
 
     // A whole dispatch, with the next number.
     #[tactic(auto, using(crate::proofs::Turning::told))]
-    fn carry_out(&mut self, event: &Event, notes: &mut Notes) -> Result<(), NoMemory>
+    fn carry_out<D: CarryOut>(
+        &mut self,
+        carry: &D,
+        event: &Event,
+        notes: &mut Notes,
+    ) -> Result<(), NoMemory>
         requires { IsSound self.old.core }
         ensures turn { OnOk result (self.new.turn ≡ self.old.turn + 1) }
         ensures notes { OnOk result (Tells (self.old.turn + 1) event.now notes.old notes.new) }
@@ -100,7 +107,7 @@ impl WireSession {
         }
         self.turn += 1;
         note_turn(self.core.alloc, self.turn, event, notes)?;
-        work(&mut self.core, event, notes)?;
+        carry.carry_out(&mut self.core, event, notes)?;
         self.obeyed = version_after(event, self.obeyed);
         Ok(())
     }
@@ -176,30 +183,4 @@ fn version_after(event: &Event, before: u64) -> u64
         Event::Obey { version, .. } => *version,
         _ => before,
     }
-}
-
-// The event's effect, small steps to the end, then the sweep.
-fn work(core: &mut WireCore, event: &Event, notes: &mut Notes) -> Result<(), NoMemory>
-    requires sound { IsSound core.old }
-    ensures sound { OnOk result (IsSound core.new) }
-    ensures notes { Appends notes.old notes.new }
-    ensures octets { TurnsAnew result event.now core.old notes.old core.new notes.new }
-{
-    begin_rows(core);
-    take_event(core, event, notes)?;
-    settle(core, event, notes)?;
-    sweep(core, notes)?;
-    rest(core)
-}
-
-// No exchange has begun yet.
-fn begin_rows(core: &mut WireCore)
-    requires sound { IsSound core.old }
-    ensures sound { IsSound core.new }
-    ensures rest { core.new ≡ record core.old { before = core.new.before; rows = core.new.rows } }
-    ensures before { core.new.before ≡ core.old.flows.exchanges.last }
-    ensures none { core.new.rows.items ≡ [] }
-{
-    core.before = core.flows.last();
-    core.rows.clear();
 }

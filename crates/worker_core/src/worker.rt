@@ -11,6 +11,7 @@ use plain_core::{CoreFault, PlainCore};
 use proxy_config::Config;
 use std::alloc::Global;
 use tape_laws::PlainLimits;
+use wire_state::CarryOut;
 
 /// The core of a worker: it carries out one event after the other, and tells in notes what it did. It has the streams of one
 /// plain session, or the connections of wire sessions.
@@ -49,9 +50,14 @@ impl Core {
         })
     }
 
-    /// Dispatches one event, and appends its notes. After running out of memory the notes so far stand, and each later call answers
+    /// Dispatches one event, which `carry` carries out on wire sessions, and appends its notes. After running out of memory the notes so far stand, and each later call answers
     /// `Failed`.
-    pub fn dispatch(&mut self, event: &Event, notes: &mut Notes) -> Result<(), CoreFault>
+    pub fn dispatch<D: CarryOut>(
+        &mut self,
+        carry: &D,
+        event: &Event,
+        notes: &mut Notes,
+    ) -> Result<(), CoreFault>
         requires { MayTake self.old.kind notes.old event.now }
         ensures ok { OnOk result (CarriesOut self.old.kind notes.old event.now self.new.kind notes.new) }
         ensures cut { BreaksOff self.old.kind notes.old event.now notes.new }
@@ -62,7 +68,7 @@ impl Core {
     {
         match &mut self.kind {
             Kind::Plain(core) => core.dispatch(event, notes),
-            Kind::Wire(core) => core.dispatch(event, notes),
+            Kind::Wire(core) => core.dispatch(carry, event, notes),
         }
     }
 

@@ -10,6 +10,7 @@ use crate::turns::Ended;
 use flow_notes::{Event, Names, Notes, event_text};
 use io_ports::{Failed, Octets};
 use std::alloc::Global;
+use wire_state::CarryOut;
 use worker_core::Core;
 use worker_parts::Journal;
 
@@ -32,7 +33,8 @@ impl Pad {
 
 /// Writes an event's line to the journal, if lines are kept, and dispatches it. Its notes are on the pad.
 #[tactic(none)]
-pub(crate) fn dispatch<J: Journal>(
+pub(crate) fn dispatch<J: Journal, D: CarryOut>(
+    carry: &D,
     core: &mut Core,
     journal: &mut J,
     names: &Names,
@@ -48,7 +50,7 @@ pub(crate) fn dispatch<J: Journal>(
 {
     keep_line(journal, names, &mut pad.line, event)?;
     pad.notes.clear();
-    match core.dispatch(event, &mut pad.notes) {
+    match core.dispatch(carry, event, &mut pad.notes) {
         Ok(()) => Ok(()),
         Err(_) => Err(Ended::Memory),
     }

@@ -12,6 +12,7 @@ use crate::turns::Ended;
 use flow_notes::{Event, Names};
 use io_ports::Failed;
 use shared_state::{PermitSeat, Permits};
+use wire_state::CarryOut;
 use worker_core::Core;
 use worker_parts::{HeldPermits, Journal};
 use worker_ports::Wires;
@@ -21,7 +22,8 @@ const MOST_ROOM: usize = 2_147_483_647;
 
 /// Offers what waits, once to each connection, by their numbers. What a connection took is dispatched as room.
 #[tactic(none)]
-pub(crate) fn offer_all<W: Wires, J: Journal>(
+pub(crate) fn offer_all<W: Wires, J: Journal, D: CarryOut>(
+    carry: &D,
     core: &mut Core,
     permits: &Permits,
     seat: &mut PermitSeat,
@@ -39,7 +41,7 @@ pub(crate) fn offer_all<W: Wires, J: Journal>(
 {
     let mut last = 0;
     while let Some(conn) = core.out_after(last) {
-        offer_one(core, permits, seat, held, wires, journal, names, pad, conn)?;
+        offer_one(carry, core, permits, seat, held, wires, journal, names, pad, conn)?;
         last = conn;
     }
     Ok(())
@@ -47,7 +49,8 @@ pub(crate) fn offer_all<W: Wires, J: Journal>(
 
 // Offers a front of what waits for a connection, and dispatches what it took.
 #[tactic(none)]
-fn offer_one<W: Wires, J: Journal>(
+fn offer_one<W: Wires, J: Journal, D: CarryOut>(
+    carry: &D,
     core: &mut Core,
     permits: &Permits,
     seat: &mut PermitSeat,
@@ -81,7 +84,7 @@ fn offer_one<W: Wires, J: Journal>(
         n: took as u32,
     };
     carry_out(
-        core, permits, seat, held, wires, journal, names, pad, &event,
+        carry, core, permits, seat, held, wires, journal, names, pad, &event,
     )
 }
 

@@ -13,13 +13,15 @@ use crate::events::{Pad, dispatch};
 use crate::turns::Ended;
 use flow_notes::{Event, Names, Note, Notes, Passage};
 use shared_state::{PermitSeat, Permits};
+use wire_state::CarryOut;
 use worker_core::Core;
 use worker_parts::{HeldPermits, Journal};
 use worker_ports::Wires;
 
 /// Writes an event's line, dispatches it, closes the connections that are done with by it, and hands its notes to the journal.
 #[tactic(none)]
-pub(crate) fn carry_out<W: Wires, J: Journal>(
+pub(crate) fn carry_out<W: Wires, J: Journal, D: CarryOut>(
+    carry: &D,
     core: &mut Core,
     permits: &Permits,
     seat: &mut PermitSeat,
@@ -37,7 +39,7 @@ pub(crate) fn carry_out<W: Wires, J: Journal>(
     ensures keeps { Keeps permits.now (W.seen wires.old) held.old (view seat.old) (W.seen wires.new) held.new seat.new }
     ensures rises { Rises result (W.faults wires.old) (W.faults wires.new) (J.faults journal.old) (J.faults journal.new) }
 {
-    dispatch(core, journal, names, pad, event)?;
+    dispatch(carry, core, journal, names, pad, event)?;
     settle(core, permits, seat, held, wires, &pad.notes);
     match journal.noted(&mut pad.notes) {
         Ok(()) => Ok(()),

@@ -15,13 +15,15 @@ use crate::settling::carry_out;
 use crate::turns::Ended;
 use flow_notes::{Event, Names};
 use shared_state::{PermitSeat, Permits};
+use wire_state::CarryOut;
 use worker_core::Core;
 use worker_parts::{HeldPermits, Journal};
 use worker_ports::{WireRefusal, Wired, Wires};
 
 /// Takes what came next, and dispatches its event. Answers whether the worker is to stop.
 #[tactic(none)]
-pub(crate) fn take_next<W: Wires, J: Journal>(
+pub(crate) fn take_next<W: Wires, J: Journal, D: CarryOut>(
+    carry: &D,
     core: &mut Core,
     permits: &Permits,
     seat: &mut PermitSeat,
@@ -45,7 +47,7 @@ pub(crate) fn take_next<W: Wires, J: Journal>(
         Err(WireRefusal::NoMemory) => return Err(Ended::Memory),
     };
     let stops = is_stop(&given);
-    take_up(core, permits, seat, held, wires, journal, names, pad, given)?;
+    take_up(carry, core, permits, seat, held, wires, journal, names, pad, given)?;
     Ok(stops)
 }
 
@@ -57,7 +59,8 @@ fn is_stop(given: &Wired) -> bool
 
 // Dispatches the event of what was given.
 #[tactic(none)]
-fn take_up<W: Wires, J: Journal>(
+fn take_up<W: Wires, J: Journal, D: CarryOut>(
+    carry: &D,
     core: &mut Core,
     permits: &Permits,
     seat: &mut PermitSeat,
@@ -76,24 +79,24 @@ fn take_up<W: Wires, J: Journal>(
     ensures rises { Rises result (W.faults wires.old) (W.faults wires.new) (J.faults journal.old) (J.faults journal.new) }
 {
     match given {
-        Wired::Accept(conn) => let_in(core, permits, seat, held, wires, journal, names, pad, conn),
+        Wired::Accept(conn) => let_in(carry, core, permits, seat, held, wires, journal, names, pad, conn),
         Wired::Join(conn, cluster) => {
             let event = Event::Join { conn, cluster };
             carry_out(
-                core, permits, seat, held, wires, journal, names, pad, &event,
+                carry, core, permits, seat, held, wires, journal, names, pad, &event,
             )
         }
         Wired::Read(conn, octets) => {
             let event = Event::Read { conn, octets };
             carry_out(
-                core, permits, seat, held, wires, journal, names, pad, &event,
+                carry, core, permits, seat, held, wires, journal, names, pad, &event,
             )
         }
         Wired::Lost(conn) => {
             held.leave(permits, seat, conn);
             let event = Event::Gone { conn };
             carry_out(
-                core, permits, seat, held, wires, journal, names, pad, &event,
+                carry, core, permits, seat, held, wires, journal, names, pad, &event,
             )
         }
         Wired::Idle => Ok(()),
@@ -103,7 +106,8 @@ fn take_up<W: Wires, J: Journal>(
 
 // Dispatches the accept of a client's connection, or closes the connection where it isn't taken.
 #[tactic(none)]
-fn let_in<W: Wires, J: Journal>(
+fn let_in<W: Wires, J: Journal, D: CarryOut>(
+    carry: &D,
     core: &mut Core,
     permits: &Permits,
     seat: &mut PermitSeat,
@@ -129,7 +133,7 @@ fn let_in<W: Wires, J: Journal>(
     }
     let event = Event::Accept { conn };
     carry_out(
-        core, permits, seat, held, wires, journal, names, pad, &event,
+        carry, core, permits, seat, held, wires, journal, names, pad, &event,
     )
 }
 

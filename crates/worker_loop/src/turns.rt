@@ -26,6 +26,7 @@ use post_queue::{Post, PostBox, RunnerPass};
 use shared_state::{Follower, PermitSeat, Permits, Snapshot};
 use std::alloc::Global;
 use std::sync::Wait;
+use wire_state::CarryOut;
 use worker_core::Core;
 use worker_parts::{HeldPermits, Journal};
 use worker_ports::{Clock, Gate, Wires};
@@ -63,9 +64,10 @@ impl From<NoMemory> for Ended {
 /// Connections that the core has closed are closed once no octets wait for them. A permit is left when its connection is lost
 /// or closed. After a turn in which the worker is to stop the work ends.
 #[tactic(none)]
-pub fn work<R: Wait, W: Wires, C: Clock, G: Gate, J: Journal>(
+pub fn work<R: Wait, W: Wires, C: Clock, G: Gate, J: Journal, D: CarryOut>(
     rt: &R,
     alloc: Global,
+    carry: &D,
     core: &mut Core,
     posts: &PostBox,
     pass: &mut RunnerPass,
@@ -101,7 +103,7 @@ pub fn work<R: Wait, W: Wires, C: Clock, G: Gate, J: Journal>(
     'turns: for turn in 0..turns {
         gate.pass(point_of(turn));
         let stops = match take_turn(
-            rt, alloc, core, posts, pass, follower, permits, seat, held, wires, clock, journal,
+            rt, alloc, carry, core, posts, pass, follower, permits, seat, held, wires, clock, journal,
             names, &mut pad,
         ) {
             Ok(stops) => stops,
@@ -121,9 +123,10 @@ fn point_of(turn: u64) -> u32 {
 
 // One turn behind the gate. Answers whether the worker is to stop.
 #[tactic(none)]
-fn take_turn<R: Wait, W: Wires, C: Clock, J: Journal>(
+fn take_turn<R: Wait, W: Wires, C: Clock, J: Journal, D: CarryOut>(
     rt: &R,
     alloc: Global,
+    carry: &D,
     core: &mut Core,
     posts: &PostBox,
     pass: &mut RunnerPass,
@@ -148,7 +151,7 @@ fn take_turn<R: Wait, W: Wires, C: Clock, J: Journal>(
     ensures rises { Rises result (W.faults wires.old) (W.faults wires.new) (J.faults journal.old) (J.faults journal.new) }
 {
     let tick = Event::Tick { now: clock.now() };
-    carry_out(core, permits, seat, held, wires, journal, names, pad, &tick)?;
+    carry_out(carry, core, permits, seat, held, wires, journal, names, pad, &tick)?;
     drop(tick);
     let list = match posts.drain_if_any(rt, alloc, pass) {
         Ok(list) => list,
@@ -156,7 +159,7 @@ fn take_turn<R: Wait, W: Wires, C: Clock, J: Journal>(
     };
     let drained = list.as_slice();
     run_posts(
-        core, permits, seat, held, wires, journal, names, pad, drained,
+        carry, core, permits, seat, held, wires, journal, names, pad, drained,
     )?;
     drop(list);
     let snapshot = match follower.current(rt, alloc) {
@@ -164,16 +167,17 @@ fn take_turn<R: Wait, W: Wires, C: Clock, J: Journal>(
         Err(NoMemory) => return Err(Ended::Memory),
     };
     obey(
-        core, permits, seat, held, wires, journal, names, pad, snapshot,
+        carry, core, permits, seat, held, wires, journal, names, pad, snapshot,
     )?;
-    let stops = take_next(core, permits, seat, held, wires, journal, names, pad)?;
-    offer_all(core, permits, seat, held, wires, journal, names, pad)?;
+    let stops = take_next(carry, core, permits, seat, held, wires, journal, names, pad)?;
+    offer_all(carry, core, permits, seat, held, wires, journal, names, pad)?;
     Ok(stops)
 }
 
 // Dispatches each post.
 #[tactic(none)]
-fn run_posts<W: Wires, J: Journal>(
+fn run_posts<W: Wires, J: Journal, D: CarryOut>(
+    carry: &D,
     core: &mut Core,
     permits: &Permits,
     seat: &mut PermitSeat,
@@ -193,7 +197,7 @@ fn run_posts<W: Wires, J: Journal>(
 {
     let mut rest = posts;
     while let Some((post, after)) = rest.split_first() {
-        run_post(core, permits, seat, held, wires, journal, names, pad, post)?;
+        run_post(carry, core, permits, seat, held, wires, journal, names, pad, post)?;
         rest = after;
     }
     Ok(())
@@ -201,7 +205,8 @@ fn run_posts<W: Wires, J: Journal>(
 
 // Dispatches a post.
 #[tactic(none)]
-fn run_post<W: Wires, J: Journal>(
+fn run_post<W: Wires, J: Journal, D: CarryOut>(
+    carry: &D,
     core: &mut Core,
     permits: &Permits,
     seat: &mut PermitSeat,
@@ -225,13 +230,14 @@ fn run_post<W: Wires, J: Journal>(
         job: post.job,
     };
     carry_out(
-        core, permits, seat, held, wires, journal, names, pad, &event,
+        carry, core, permits, seat, held, wires, journal, names, pad, &event,
     )
 }
 
 // Dispatches what the follower answered, where that is newer than what was obeyed last.
 #[tactic(none)]
-fn obey<W: Wires, J: Journal>(
+fn obey<W: Wires, J: Journal, D: CarryOut>(
+    carry: &D,
     core: &mut Core,
     permits: &Permits,
     seat: &mut PermitSeat,
@@ -257,6 +263,6 @@ fn obey<W: Wires, J: Journal>(
         pressures: snapshot.pressures,
     };
     carry_out(
-        core, permits, seat, held, wires, journal, names, pad, &event,
+        carry, core, permits, seat, held, wires, journal, names, pad, &event,
     )
 }

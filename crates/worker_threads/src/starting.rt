@@ -9,6 +9,7 @@ use std::mem;
 use std::sync::Wait;
 use std::sync::atomic::Ordering;
 use std::thread::{Threads, for_each_mut};
+use wire_state::CarryOut;
 use worker_loop::{Ended, HeldPermits, Journal, work};
 use worker_ports::{Clock, Gate, Wires};
 
@@ -17,9 +18,10 @@ use worker_ports::{Clock, Gate, Wires};
 /// another. Each counts itself in `begun` as it begins, and the first that ends otherwise than by its turns raises `over`; the others
 /// go on until their connections tell them to stop.
 #[tactic(auto, using(crate::proofs::Readying::all_worked, crate::proofs::Readying::none_worked))]
-pub fn start_workers<R, W, C, G, J>(
+pub fn start_workers<R, W, C, G, J, D>(
     rt: &R,
     alloc: Global,
+    carry: &D,
     shared: &Shared,
     workers: &mut [Worker<W, C, G, J>],
     turns: u64,
@@ -30,6 +32,7 @@ where
     C: Clock + Send,
     G: Gate + Send,
     J: Journal + Send,
+    D: CarryOut + Sync,
     requires ready { (i : ℕ) (w : _) → i < length workers.old → IsReady (outside_of W.Wires C.moments J.contents J.told J.faults) shared.now i (slice_index_or workers.old i w) }
     ensures ok { IfOk result (λ ends. WorkedEach (outside_of W.Wires C.moments J.contents J.told J.faults) shared.now turns workers.old ends.items workers.new) }
     ensures err { OnErr result (workers.new ≡ workers.old) }
@@ -38,7 +41,7 @@ where
     if workers.is_empty() {
         return Ok(ends);
     }
-    run_each(rt, alloc, shared, workers, turns);
+    run_each(rt, alloc, carry, shared, workers, turns);
     Ok(ends_of(workers, ends))
 }
 
@@ -57,9 +60,10 @@ fn ends_of<W, C, G, J>(workers: &[Worker<W, C, G, J>], mut ends: Vec<Ended>) -> 
 }
 
 // Runs each in a thread of its own.
-fn run_each<R, W, C, G, J>(
+fn run_each<R, W, C, G, J, D>(
     rt: &R,
     alloc: Global,
+    carry: &D,
     shared: &Shared,
     workers: &mut [Worker<W, C, G, J>],
     turns: u64,
@@ -70,6 +74,7 @@ where
     C: Clock + Send,
     G: Gate + Send,
     J: Journal + Send,
+    D: CarryOut + Sync,
     requires some { 0 < length workers.old }
     requires ready { (i : ℕ) (w : _) → i < length workers.old → IsReady (outside_of W.Wires C.moments J.contents J.told J.faults) shared.now i (slice_index_or workers.old i w) }
     ensures len { length workers.new ≡ length workers.old }
@@ -80,14 +85,15 @@ where
         rt,
         workers,
         count,
-        &|index, worker| { run_worker(rt, alloc, shared, index, worker, turns) },
+        &|index, worker| { run_worker(rt, alloc, carry, shared, index, worker, turns) },
     );
 }
 
 // Runs the turns of the worker at this place, tells the others of them, and gives its permits back.
-fn run_worker<R: Wait, W: Wires, C: Clock, G: Gate, J: Journal>(
+fn run_worker<R: Wait, W: Wires, C: Clock, G: Gate, J: Journal, D: CarryOut>(
     rt: &R,
     alloc: Global,
+    carry: &D,
     shared: &Shared,
     place: usize,
     worker: &mut Worker<W, C, G, J>,
@@ -100,6 +106,7 @@ fn run_worker<R: Wait, W: Wires, C: Clock, G: Gate, J: Journal>(
     let ended = work(
         rt,
         alloc,
+        carry,
         &mut worker.core,
         &shared.posts[place],
         &mut worker.pass,

@@ -11,6 +11,7 @@ use proxy_config::Config;
 use std::alloc::Global;
 use std::marker::Model;
 use std::time::CpuClock;
+use wire_steps::WireSteps;
 use worker_core::Core;
 
 /// The most octets of a configuration.
@@ -71,7 +72,7 @@ impl Rig {
     #[tactic(auto, using(crate::proofs::Fitting::may_take, crate::proofs::Fitting::stays_fit))]
     pub fn go(&mut self, event: &Event) -> anyhow::Result<()> {
         self.notes.clear();
-        let went = self.core.dispatch(event, &mut self.notes);
+        let went = self.core.dispatch(&WireSteps, event, &mut self.notes);
         ensure!(went.is_ok(), "a dispatch failed");
         Ok(())
     }

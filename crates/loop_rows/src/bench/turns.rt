@@ -18,6 +18,7 @@ use session_config::names_of;
 use std::alloc::Global;
 use std::sync::Wait;
 use std::time::CpuClock;
+use wire_steps::WireSteps;
 use worker_core::Core;
 use worker_loop::{Ended, HeldPermits, work};
 use worker_ports::OpenGate;
@@ -169,6 +170,7 @@ fn run_turns<R: AllocGlobal + Wait>(
     let ended = work(
         rt,
         rt.alloc(),
+        &WireSteps,
         core,
         &desk.posts,
         &mut desk.pass,

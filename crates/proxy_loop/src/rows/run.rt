@@ -10,6 +10,7 @@ use std::alloc::Global;
 use std::mem;
 use std::sync::Wait;
 use std::thread::Threads;
+use wire_steps::WireSteps;
 
 /// Where the proxy listens.
 const ADDRESS: &[u8] = b"192.0.2.1:8000";
@@ -51,6 +52,7 @@ pub fn run_case<R: AllocGlobal + Threads + Wait + Sync + Drop>(
     Ok(serve_proxy(
         &Still::new(rt),
         alloc,
+        &WireSteps,
         case.words.as_slice(),
         &mut source,
         site,

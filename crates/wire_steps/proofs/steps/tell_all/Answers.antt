@@ -1,5 +1,5 @@
 use Rattle.std.specs.Prelude.{Some}
-use Rattle.worker_core.proofs.steps.tell_all.Goals as goal
+use Rattle.wire_steps.proofs.steps.tell_all.Goals as goal
 
 pub returns-clause-octets : goal.returns-clause-octets
 returns-clause-octets c = record {

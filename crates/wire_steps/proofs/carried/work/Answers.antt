@@ -2,7 +2,7 @@ use Rattle.std.proofs.Common.{ap, sym, ◌∙◌}
 use Rattle.wire_state.proofs.Turned.{turns_from}
 use Rattle.wire_state.specs.Worlds.{left_after}
 use Rattle.wire_state.specs.declared.wire_core.WireCore.{WireCore}
-use Rattle.worker_core.proofs.wire.work.Goals as goal
+use Rattle.wire_steps.proofs.carried.work.Goals as goal
 
 pub returns-clause-octets : goal.returns-clause-octets
 returns-clause-octets c =

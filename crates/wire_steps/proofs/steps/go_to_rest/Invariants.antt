@@ -6,7 +6,7 @@ use Rattle.wire_state.specs.Progress.{to_go}
 use Rattle.wire_state.specs.Sound.{IsSound}
 use Rattle.wire_state.specs.Ways.{WayHistory}
 use Rattle.wire_state.specs.Worlds.{Told}
-use Rattle.worker_core.proofs.steps.go_to_rest.Given as goal
+use Rattle.wire_steps.proofs.steps.go_to_rest.Given as goal
 
 abbrev pub invariant-loop : goal.invariant-loop
 invariant-loop l = record { sound : IsSound l.core; notes : Appends l.fn.notes l.notes; octets : (k : Config) (t : Option ℕ) (h : WayHistory) (g : ℕ → List ℕ) (start : List Note) → Told k t None h g start l.fn.core l.fn.notes → Told k t None h g start l.core l.notes }

@@ -1,7 +1,7 @@
 use Rattle.std.proofs.Common.{arith}
 use Rattle.wire_state.specs.Progress.{to_go}
-use Rattle.worker_core.proofs.Answering.{if_ok_map}
-use Rattle.worker_core.proofs.rounds.next_round.Goals as goal
+use Rattle.wire_steps.proofs.Answering.{if_ok_map}
+use Rattle.wire_steps.proofs.rounds.next_round.Goals as goal
 
 -- src/rounds.rt:26:1
 pub returns-in-Frame-clause-go : goal.returns-in-Frame-clause-go

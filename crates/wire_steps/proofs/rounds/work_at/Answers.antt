@@ -3,7 +3,7 @@ use Rattle.wire_state.proofs.Goings.{conn_keeps}
 use Rattle.wire_state.proofs.Weights.{conn_changed}
 use Rattle.wire_state.specs.Progress.{to_go}
 use Rattle.wire_state.specs.declared.conn.Conn.{Conn}
-use Rattle.worker_core.proofs.rounds.work_at.Goals as goal
+use Rattle.wire_steps.proofs.rounds.work_at.Goals as goal
 
 pub returns-in-Some-clause-go : goal.returns-in-Some-clause-go
 unfolding to_go

@@ -1,5 +1,5 @@
 use Rattle.wire_state.proofs.Telling.{all_told}
-use Rattle.worker_core.proofs.steps.drain_told.Goals as goal
+use Rattle.wire_steps.proofs.steps.drain_told.Goals as goal
 
 pub returns-clause-octets : goal.returns-clause-octets
 returns-clause-octets c = record {

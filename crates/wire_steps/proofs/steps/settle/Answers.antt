@@ -1,7 +1,7 @@
 use Rattle.std.proofs.Common.{subst, sym, ◌∙◌}
 use Rattle.std.specs.Prelude.{Option, ℕ}
 use Rattle.wire_state.specs.Worlds.{TellsAll}
-use Rattle.worker_core.proofs.steps.settle.Goals as goal
+use Rattle.wire_steps.proofs.steps.settle.Goals as goal
 
 pub returns-in-Some-clause-octets : goal.returns-in-Some-clause-octets
 returns-in-Some-clause-octets c = subst (λ (o : Option ℕ). TellsAll o c.tell_all.result c.args.core.now c.args.notes.now c.tell_all.new.core c.tell_all.new.notes) (sym c.in-Some.is ∙ c.eased_conn.ensures) c.tell_all.ensures.octets
