@@ -1,8 +1,11 @@
 // Prints one text's configuration.
 use anyhow::Result;
-use io_ports::Octets;
 use config_tables::{ConfigFault, read_config};
-use proxy_config::{Cluster, Config, Filter, FilterList, Form, LimitKeys, OverloadKeys, Point, ProxyKeys, Route, ShedRow, TimeoutKeys, Trigger, route};
+use io_ports::Octets;
+use proxy_config::{
+    Cluster, Config, Filter, FilterList, Form, LimitKeys, OverloadKeys, Point, ProxyKeys, Route,
+    ShedRow, TimeoutKeys, Trigger, route,
+};
 
 /// Prints the name of a text, its configuration or its fault, and the rows that it asks for. A configuration is dropped by a
 /// call, since the check follows a drop without one field by field.

@@ -1,5 +1,6 @@
 //! The configuration of the proxy as a text of TOML: what it comes to, and the first of its faults.
 #![tactic(auto)]
+
 ghost use Rattle.config_tables.specs.Reading.{config_of};
 ghost use Rattle.proxy_config.specs.Defaults.{config_of_empty};
 ghost use Rattle.std.specs.Prelude.{◌≡◌, [], Ok};

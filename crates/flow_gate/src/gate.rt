@@ -4,10 +4,10 @@ ghost use Rattle.std.specs.Map.{values_of};
 ghost use Rattle.flow_gate.specs.Board.{times};
 ghost use Rattle.flow_rules.specs.declared.ids.FlowId.{FlowId};
 
-use flow_rules::FlowId;
 use crate::line::Watchers;
 use crate::row::{add_last, make_whole};
 use crate::stands::{Stand, between, close_up, first, leave, place_after, span};
+use flow_rules::FlowId;
 use io_ports::NoMemory;
 use std::alloc::Global;
 use std::marker::Model;

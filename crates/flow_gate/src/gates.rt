@@ -10,10 +10,10 @@ ghost use Rattle.flow_rules.specs.declared.ids.FlowId.{FlowId};
 
 use crate::buffers::Buffers;
 use crate::flow_map::FlowMap;
-use flow_rules::{BufferId, FlowId};
 use crate::line::Watchers;
 use crate::spares::Spares;
 use crate::watcher::{Watch, Watcher};
+use flow_rules::{BufferId, FlowId};
 use io_ports::NoMemory;
 use std::alloc::Global;
 use std::marker::Model;

@@ -4,8 +4,8 @@ ghost use Rattle.std.specs.Iterator.{YieldsFirst, item_count};
 ghost use Rattle.std.specs.Map.{values_of};
 ghost use Rattle.flow_gate.specs.Line.{live};
 
-use flow_rules::FlowId;
 use crate::stands::{Stand, count, split_first};
+use flow_rules::FlowId;
 use std::marker::Model;
 
 /// Watchers of a buffer, in the order in which they began to watch. Takes no memory.

@@ -4,8 +4,8 @@ ghost use Rattle.flow_gate.specs.declared.stands.Stand.{Stand};
 ghost use Rattle.std.specs.Map.{values_of};
 ghost use Rattle.flow_gate.specs.Line.{IsRow, is_taken, live};
 
-use flow_rules::FlowId;
 use crate::stands::Stand;
+use flow_rules::FlowId;
 use io_ports::NoMemory;
 
 /// Makes the row as long as the line where it is not: the gaps of the line go, and its flows are copied. Where there

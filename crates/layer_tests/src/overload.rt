@@ -2,9 +2,9 @@
 ghost use Rattle.std.specs.Prelude.{◌≡◌, ◌<◌};
 
 use crate::said::{holds, same, same_in};
+use config_tables::read_config;
 use link_lists::Steps;
 use overload_core::{Actions, Classes, action_states, class_of, trigger_state};
-use config_tables::read_config;
 use proxy_config::{Form, Trigger};
 use std::alloc::Global;
 use std::marker::Brand;

@@ -9,8 +9,8 @@ mod entering;
 mod followed;
 mod threads;
 
-use io_ports::NoMemory;
 use config_tables::read_config;
+use io_ports::NoMemory;
 use proxy_config::Config;
 use shared_state::{Follower, Followers, Publisher, make_shared};
 use std::alloc::AllocGlobal;

@@ -3,8 +3,8 @@ ghost use Rattle.proxy_config.specs.Ranges.{IsInRange};
 ghost use Rattle.config_tables.specs.Reading.{config_of};
 ghost use Rattle.std.specs.Prelude.{◌≡◌, IfSome, List, Ok, ℕ};
 
-use io_ports::NoMemory;
 use config_tables::read_config;
+use io_ports::NoMemory;
 use proxy_config::Config;
 use std::alloc::Global;
 

@@ -19,8 +19,8 @@ use std::rt::Files;
 use std::sync::{Arc, Wait};
 use std::thread::Threads;
 use std::time::Clock;
-use wire_steps::WireSteps;
 pub use tell::tell_served;
+use wire_steps::WireSteps;
 
 /// Does what the words ask for, with what the proxy says on the output, and answers the exit code of its status. Why it
 /// isn't 0 is told in lines on standard error; where the words have no form, that is the usage. `--help` and `--version` are

@@ -1,9 +1,9 @@
 // Why the proxy ended, on standard error.
 
 use crate::pages::USAGE;
+use config_tables::ConfigFault;
 use config_text::tell_no_toml;
 use io_ports::Octets;
-use config_tables::ConfigFault;
 use proxy_site::{ServeReason, Status};
 use proxy_wire::{ProxyReason, ProxyServed, WireEnd};
 use relay_work::RelayEnded;

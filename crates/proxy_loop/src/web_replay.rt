@@ -1,9 +1,9 @@
 // The replay of a worker's journal.
 
 use crate::web_journal::{Kept, put_note};
+use config_tables::read_config;
 use flow_notes::{NameRefusal, Names, read_note};
 use io_ports::{MemSink, MemSource, NoMemory, Octets};
-use config_tables::read_config;
 use session_run::Status;
 use std::alloc::Global;
 use wire_run::run_wire;

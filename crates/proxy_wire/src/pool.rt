@@ -8,9 +8,9 @@ ghost use Rattle.shared_state.specs.PermitSeats.{IsSeatOf, seats_in};
 ghost use Rattle.worker_core.specs.Sessions.{IsNew, RestsWire, StandsAt};
 
 use crate::meter::Unmetered;
+use config_tables::read_config;
 use io_ports::NoMemory;
 use post_queue::RunnerPass;
-use config_tables::read_config;
 use proxy_config::Config;
 use session_config::names_of;
 use shared_state::{Follower, Followers, PermitSeat, PermitSeats, Permits};

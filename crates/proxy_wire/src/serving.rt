@@ -119,9 +119,13 @@ where
         }
     };
     if config.proxy.accept_rate == 0 {
-        run(rt, alloc, carry, task, &address, staff, leader, site, gauge, out)
+        run(
+            rt, alloc, carry, task, &address, staff, leader, site, gauge, out,
+        )
     } else {
-        limit_and_run(rt, alloc, carry, task, &address, staff, leader, site, gauge, out)
+        limit_and_run(
+            rt, alloc, carry, task, &address, staff, leader, site, gauge, out,
+        )
     }
 }
 
@@ -168,7 +172,9 @@ where
         put,
     };
     let staff = metered(staff, meter);
-    run(rt, alloc, carry, task, address, staff, leader, site, gauge, out)
+    run(
+        rt, alloc, carry, task, address, staff, leader, site, gauge, out,
+    )
 }
 
 // One pressure of 0 for each resource.

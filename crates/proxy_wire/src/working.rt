@@ -186,7 +186,9 @@ where
     }
     leader.look(rt, alloc, task.config, gauge, shared.posts.as_slice());
     meter.put(task.config.proxy.accept_rate);
-    let (ends, led) = run_beside(rt, alloc, carry, task, shared, leader, meter, site, gauge, workers);
+    let (ends, led) = run_beside(
+        rt, alloc, carry, task, shared, leader, meter, site, gauge, workers,
+    );
     end_of(ends, led)
 }
 

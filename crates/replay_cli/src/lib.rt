@@ -6,9 +6,9 @@ mod tell;
 
 use crate::pages::{HELP, USAGE, VERSION};
 use crate::tell::tell_outcome;
+use config_tables::ConfigFault;
 use config_text::{ConfigFile, tell_no_toml};
 use program_ports::{Input, Output};
-use config_tables::ConfigFault;
 use replay_run::{Reason, Status, replay_with_reason};
 use std::env::{self, Env};
 use std::fs;

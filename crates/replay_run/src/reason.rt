@@ -2,9 +2,9 @@
 ghost use Rattle.std.specs.Prelude.{OnErr, OnOk};
 ghost use Rattle.flow_notes.specs.Extends.{Extends};
 
+use config_tables::ConfigFault;
 use io_ports::{NoMemory, Octets};
 use line_faults::LineFault;
-use config_tables::ConfigFault;
 use session_config::put_config_fault;
 use session_run::Status;
 use std::alloc::Global;

@@ -3,8 +3,8 @@ ghost use Rattle.std.specs.Prelude.{◌≡◌, ◌<◌, ◌≤◌, IfOk, length}
 ghost use Rattle.proxy_config.specs.Ranges.{IsInRange};
 ghost use Rattle.session_config.specs.Loading.{CausesFault, Loads, ReadsPiece, ReadsWhole};
 
-use io_ports::{Failed, NoMemory, Octets, Source};
 use config_tables::{ConfigFault, read_config};
+use io_ports::{Failed, NoMemory, Octets, Source};
 use proxy_config::Config;
 use std::alloc::Global;
 use std::error::Error;

@@ -4,9 +4,9 @@ ghost use Rattle.flow_notes.specs.Extends.{Extends};
 ghost use Rattle.session_config.specs.Refusals.{fault_number, key_text, refusal_line};
 
 use crate::key::put_unknown;
+use config_tables::ConfigFault;
 use io_ports::{NoMemory, Octets};
 use itoa::Buffer;
-use config_tables::ConfigFault;
 
 /// Appends `refused config N KEY` and a newline: the fault's number, 1 to 6 in the order of their kinds, and its key. Out
 /// of memory, which refuses no configuration, has the number 7. Running out of memory here may leave some of the line.

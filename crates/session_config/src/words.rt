@@ -3,8 +3,8 @@ ghost use Rattle.std.specs.Prelude.{OnErr, OnOk};
 ghost use Rattle.flow_notes.specs.Extends.{Extends};
 
 use crate::refusal::put_key;
-use io_ports::{NoMemory, Octets};
 use config_tables::ConfigFault;
+use io_ports::{NoMemory, Octets};
 
 /// What may stand at a key, by the last part of its name.
 const ASKED: [(&[u8], &[u8]); 46] = [

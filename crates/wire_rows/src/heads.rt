@@ -17,9 +17,9 @@ ghost use Rattle.proxy_config.specs.Ranges.{IsInRange};
 
 use crate::words::{Answers, number, small_number};
 use anyhow::{Result, bail};
+use config_tables::read_config;
 use hpack_codec::{Field, FieldList};
 use io_ports::{NoMemory, Octets};
-use config_tables::read_config;
 use proxy_config::Config;
 use std::alloc::Global;
 use wire_heads::{

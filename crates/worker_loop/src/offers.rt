@@ -41,7 +41,9 @@ pub(crate) fn offer_all<W: Wires, J: Journal, D: CarryOut>(
 {
     let mut last = 0;
     while let Some(conn) = core.out_after(last) {
-        offer_one(carry, core, permits, seat, held, wires, journal, names, pad, conn)?;
+        offer_one(
+            carry, core, permits, seat, held, wires, journal, names, pad, conn,
+        )?;
         last = conn;
     }
     Ok(())

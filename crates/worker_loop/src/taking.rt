@@ -47,7 +47,9 @@ pub(crate) fn take_next<W: Wires, J: Journal, D: CarryOut>(
         Err(WireRefusal::NoMemory) => return Err(Ended::Memory),
     };
     let stops = is_stop(&given);
-    take_up(carry, core, permits, seat, held, wires, journal, names, pad, given)?;
+    take_up(
+        carry, core, permits, seat, held, wires, journal, names, pad, given,
+    )?;
     Ok(stops)
 }
 
@@ -79,7 +81,9 @@ fn take_up<W: Wires, J: Journal, D: CarryOut>(
     ensures rises { Rises result (W.faults wires.old) (W.faults wires.new) (J.faults journal.old) (J.faults journal.new) }
 {
     match given {
-        Wired::Accept(conn) => let_in(carry, core, permits, seat, held, wires, journal, names, pad, conn),
+        Wired::Accept(conn) => let_in(
+            carry, core, permits, seat, held, wires, journal, names, pad, conn,
+        ),
         Wired::Join(conn, cluster) => {
             let event = Event::Join { conn, cluster };
             carry_out(

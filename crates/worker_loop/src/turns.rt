@@ -103,8 +103,8 @@ pub fn work<R: Wait, W: Wires, C: Clock, G: Gate, J: Journal, D: CarryOut>(
     'turns: for turn in 0..turns {
         gate.pass(point_of(turn));
         let stops = match take_turn(
-            rt, alloc, carry, core, posts, pass, follower, permits, seat, held, wires, clock, journal,
-            names, &mut pad,
+            rt, alloc, carry, core, posts, pass, follower, permits, seat, held, wires, clock,
+            journal, names, &mut pad,
         ) {
             Ok(stops) => stops,
             Err(end) => return end,
@@ -151,7 +151,9 @@ fn take_turn<R: Wait, W: Wires, C: Clock, J: Journal, D: CarryOut>(
     ensures rises { Rises result (W.faults wires.old) (W.faults wires.new) (J.faults journal.old) (J.faults journal.new) }
 {
     let tick = Event::Tick { now: clock.now() };
-    carry_out(carry, core, permits, seat, held, wires, journal, names, pad, &tick)?;
+    carry_out(
+        carry, core, permits, seat, held, wires, journal, names, pad, &tick,
+    )?;
     drop(tick);
     let list = match posts.drain_if_any(rt, alloc, pass) {
         Ok(list) => list,
@@ -197,7 +199,9 @@ fn run_posts<W: Wires, J: Journal, D: CarryOut>(
 {
     let mut rest = posts;
     while let Some((post, after)) = rest.split_first() {
-        run_post(carry, core, permits, seat, held, wires, journal, names, pad, post)?;
+        run_post(
+            carry, core, permits, seat, held, wires, journal, names, pad, post,
+        )?;
         rest = after;
     }
     Ok(())

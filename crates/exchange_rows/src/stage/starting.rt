@@ -4,10 +4,10 @@ ghost use Rattle.proxy_config.specs.Ranges.{IsBetween, IsRoute, most_octets};
 
 use super::Stage;
 use crate::answer::Answer;
+use config_tables::read_config;
 use exchange_core::StartSpec;
 use flow_gate::{BufferId, FlowId, Gates};
 use io_ports::NoMemory;
-use config_tables::read_config;
 use proxy_config::Config;
 use std::alloc::Global;
 

@@ -3,9 +3,9 @@ ghost use Rattle.std.specs.Prelude.{◌≡◌};
 
 use super::{one_follower, shared};
 use crate::said::{holds, same, same_in};
+use config_tables::read_config;
 use io_ports::NoMemory;
 use overload_core::action_states;
-use config_tables::read_config;
 use proxy_config::Config;
 use shared_state::{Follower, Publisher, Snapshot, Told};
 use std::alloc::AllocGlobal;
