@@ -71,7 +71,7 @@ const LINE: &[u8] = b"line";
 const LENGTH: &[u8] = b"length";
 
 /// A line of a summary.
-#[derive(Clone, Copy)]
+#[derive(Clone, Copy, PartialEq, Eq)]
 pub enum Line {
     /// A buffer held at most `most` octets.
     Peak {
