@@ -10,7 +10,7 @@ pub loop-x-preserved : goal.loop-x-preserved
 loop-x-preserved c = pass_next (may_move c.args.to) c.args.map.now c.loop-x.after c.in-Some.x c.loop-x.invariant c.in-Some.ensures.least (sym c.if-not-may_move_at-2.ensures)
 
 pub returns-clause-all : goal.returns-clause-all
-returns-clause-all c = λ _. pass_all (may_move c.args.to) c.args.map.now c.loop-x.after c.loop-x.invariant c.in-None.ensures.least
+returns-clause-all c = λ _. pass_all (may_move c.args.to) c.args.map.now c.loop-x.after c.loop-x.invariant c.in_default.ensures.least
 
 pub returns-then-not-may_move_at-clause-some : goal.returns-then-not-may_move_at-clause-some
 returns-then-not-may_move_at-clause-some c = λ _. (0, sym c.if-not-may_move_at.ensures)
