@@ -14,12 +14,12 @@ if ! printf '#include <nghttp2/nghttp2.h>\nint main(void) { return nghttp2_versi
     exit 0
 fi
 "$compiler" -O3 -o "$made/fields" bench/fields.c -lnghttp2
-cd crates/bench_main
+cd crates/wire_rows
 rt run >/dev/null
-out/bench_main fields blocks >"$made/stories"
+out/wire_rows bench fields blocks >"$made/stories"
 /usr/bin/python3 ../../bench/stories.py >>"$made/stories"
 for turn in 1 2 3 4 5; do
-    out/bench_main fields stories <"$made/stories"
+    out/wire_rows bench fields stories <"$made/stories"
     "$made/fields" <"$made/stories"
 done
-out/bench_main fields | tail -1
+out/wire_rows bench fields | tail -1

@@ -4,7 +4,7 @@ below, or on its own line further to the right behind a dash. Programs of tables
 import re
 import sys
 
-PROGRAMS = re.compile(r"(_rows|_tests|_bench|_main|_try)$|^(bench_\w+|core_bench|replay_cli|proxy_loop)$")
+PROGRAMS = re.compile(r"(_rows|_tests|_bench|_main|_try)$|^(bench_\w+|replay_cli|proxy_loop)$")
 
 
 def layers():

@@ -1,8 +1,9 @@
 // Gates by tables of calls. What each call answers, and the counts after it, were found by hand from the rules.
 mod many;
+mod watchers;
 
 use crate::said::{holds, same, same_in};
-use flow_gate::{BufferId, FlowId, Gates, Watchers};
+use flow_gate::{BufferId, FlowId, Gates};
 use io_ports::NoMemory;
 use std::process::Abort;
 
@@ -246,75 +247,49 @@ fn make_all(rt: &impl Abort, gates: &mut Gates, rows: &[Row]) -> Result<(), NoMe
     Ok(())
 }
 
+/// Makes the calls of a table on new gates. A call drops them, as in all tests of gates: without it the check follows at
+/// each end of a function how all that they hold is dropped.
+fn make_by_table(rt: &(impl AllocGlobal + Abort), rows: &[Row]) -> Result<(), NoMemory> {
+    let mut gates = Gates::new(rt.alloc());
+    let end = make_all(rt, &mut gates, rows);
+    drop(gates);
+    end
+}
+
 #[test]
 fn calls_answer_by_the_tables(rt: HostRuntime) -> Result<(), NoMemory> {
-    for rows in [
-        ONE_FLOW.as_slice(),
-        TWO_FLOWS.as_slice(),
-        TWO_BUFFERS.as_slice(),
-        FORGOTTEN.as_slice(),
-    ] {
-        make_all(&rt, &mut Gates::new(rt.alloc()), rows)?;
-    }
-    let mut gates = Gates::new(rt.alloc());
-    make_all(&rt, &mut gates, &OWN_BUFFERS)?;
+    make_by_table(&rt, &ONE_FLOW)?;
+    make_by_table(&rt, &TWO_FLOWS)?;
+    make_by_table(&rt, &TWO_BUFFERS)?;
+    make_by_table(&rt, &FORGOTTEN)
+}
+
+/// Flows and buffers of their own come, and which of them go with a flow.
+fn some_are_left(rt: &impl Abort, gates: &mut Gates) -> Result<(), NoMemory> {
+    make_all(rt, gates, &OWN_BUFFERS)?;
     for (buffer, known) in LEFT {
-        same(&rt, &gates.is_known(buffer), &known);
+        same(rt, &gates.is_known(buffer), &known);
     }
     Ok(())
 }
 
 #[test]
-fn watchers_stand_in_the_order_in_which_they_began(rt: HostRuntime) -> Result<(), NoMemory> {
+fn the_buffers_of_a_flow_go_with_it(rt: HostRuntime) -> Result<(), NoMemory> {
     let mut gates = Gates::new(rt.alloc());
-    make_all(&rt, &mut gates, &TWO_FLOWS[..13])?;
-    let watchers = [FIRST, SECOND, LEAST];
-    let mut seen = 0;
-    for watcher in gates.watchers(SHARED) {
-        same(&rt, &watchers.get(seen).copied(), &Some(watcher));
-        seen = seen.saturating_add(1);
-    }
-    same(&rt, &seen, &3);
-    for (i, watcher) in watchers.iter().enumerate() {
-        same(&rt, &gates.watcher(SHARED, i), &Some(*watcher));
-    }
-    same(&rt, &gates.watcher(SHARED, 3), &None);
-    same(&rt, &gates.watcher(OWN, 0), &None);
-    Ok(())
+    let end = some_are_left(&rt, &mut gates);
+    drop(gates);
+    end
 }
 
-/// All three watchers are still to be told, in the order in which they began.
-fn three_are_to_be_told(rt: &impl Abort, gates: &Gates) {
-    let lows = [FIRST, SECOND, LEAST];
-    let mut seen = 0;
-    for low in gates.lows(SHARED) {
-        same(rt, &lows.get(seen).copied(), &Some(low));
-        seen = seen.saturating_add(1);
-    }
-    same(rt, &seen, &3);
-}
-
-/// Two are told at once, and then the third.
-fn two_and_one_are_told(rt: &impl Abort, gates: &mut Gates) {
-    gates.take_lows(SHARED, 2);
-    for (flow, held) in [(FIRST, 0), (SECOND, 0), (LEAST, 1)] {
-        same(rt, &count(gates, flow), &Some(held));
-    }
-    same(rt, &gates.lows(SHARED).nth(0), &Some(LEAST));
-    same(rt, &gates.lows(SHARED).nth(1), &None);
-    gates.take_lows(SHARED, 2);
-    same(rt, &count(gates, LEAST), &Some(0));
-    same(rt, &gates.lows(SHARED).nth(0), &None);
-    gates.take_lows(OWN, 1);
-    same(rt, &gates.lows(OWN).nth(0), &None);
-}
-
-#[test]
-fn lows_are_told_together(rt: HostRuntime) -> Result<(), NoMemory> {
-    let mut gates = Gates::new(rt.alloc());
-    make_all(&rt, &mut gates, &TWO_FLOWS[..14])?;
-    three_are_to_be_told(&rt, &gates);
-    two_and_one_are_told(&rt, &mut gates);
+/// A flow is clear until a buffer rises that it doesn't watch.
+fn one_is_clear(rt: &impl Abort, gates: &mut Gates) -> Result<(), NoMemory> {
+    make_all(rt, gates, &TWO_BUFFERS[..4])?;
+    assert!(rt; gates.is_open(FIRST));
+    holds(rt, gates.is_clear(FIRST, OWN, SHARED));
+    make_all(rt, gates, &TWO_BUFFERS[4..5])?;
+    assert!(rt; gates.is_open(FIRST));
+    holds(rt, gates.is_clear(FIRST, OWN, OWN));
+    holds(rt, !gates.is_clear(FIRST, OWN, SHARED));
     Ok(())
 }
 
@@ -322,65 +297,7 @@ fn lows_are_told_together(rt: HostRuntime) -> Result<(), NoMemory> {
 #[test]
 fn a_flow_is_clear_where_no_buffer_is_above(rt: HostRuntime) -> Result<(), NoMemory> {
     let mut gates = Gates::new(rt.alloc());
-    make_all(&rt, &mut gates, &TWO_BUFFERS[..4])?;
-    assert!(rt; gates.is_open(FIRST));
-    holds(&rt, gates.is_clear(FIRST, OWN, SHARED));
-    make_all(&rt, &mut gates, &TWO_BUFFERS[4..5])?;
-    assert!(rt; gates.is_open(FIRST));
-    holds(&rt, gates.is_clear(FIRST, OWN, OWN));
-    holds(&rt, !gates.is_clear(FIRST, OWN, SHARED));
-    Ok(())
-}
-
-/// What a watchers' iterator, its length and its slice say agrees with these flows; whether there is a slice.
-fn are_all(rt: &impl Abort, mut watchers: Watchers<'_>, flows: &[FlowId]) -> bool {
-    same(rt, &watchers.len(), &flows.len());
-    same(rt, &watchers.is_empty(), &flows.is_empty());
-    let row = watchers.as_slice();
-    if let Some(row) = row {
-        holds(rt, row == flows);
-    }
-    for flow in flows {
-        same(rt, &watchers.next(), &Some(*flow));
-    }
-    same(rt, &watchers.next(), &None);
-    row.is_some()
-}
-
-/// The watchers lie side by side until one leaves.
-fn one_leaves(rt: &impl Abort, gates: &mut Gates) -> Result<(), NoMemory> {
-    make_all(rt, gates, &TWO_FLOWS[..13])?;
-    holds(
-        rt,
-        are_all(rt, gates.watchers(SHARED), &[FIRST, SECOND, LEAST]),
-    );
-    holds(rt, are_all(rt, gates.lows(SHARED), &[]));
-    make_one(rt, gates, BeginLow(SHARED))?;
-    make_one(rt, gates, NextLow(SHARED))?;
-    holds(rt, are_all(rt, gates.lows(SHARED), &[SECOND, LEAST]));
-    make_one(rt, gates, Forget(SECOND))?;
-    holds(rt, !are_all(rt, gates.watchers(SHARED), &[FIRST, LEAST]));
-    holds(rt, !are_all(rt, gates.lows(SHARED), &[LEAST]));
-    Ok(())
-}
-
-/// They do again once the buffer rises.
-fn it_rises_again(rt: &impl Abort, gates: &mut Gates) -> Result<(), NoMemory> {
-    make_one(rt, gates, OpenFlow(SECOND))?;
-    make_one(rt, gates, Watch(SECOND, SHARED))?;
-    make_one(rt, gates, High(SHARED))?;
-    holds(
-        rt,
-        are_all(rt, gates.watchers(SHARED), &[FIRST, LEAST, SECOND]),
-    );
-    holds(rt, are_all(rt, gates.lows(SHARED), &[LEAST]));
-    holds(rt, are_all(rt, gates.watchers(OWN), &[]));
-    Ok(())
-}
-
-#[test]
-fn watchers_lie_side_by_side(rt: HostRuntime) -> Result<(), NoMemory> {
-    let mut gates = Gates::new(rt.alloc());
-    one_leaves(&rt, &mut gates)?;
-    it_rises_again(&rt, &mut gates)
+    let end = one_is_clear(&rt, &mut gates);
+    drop(gates);
+    end
 }

@@ -188,88 +188,95 @@ fn after<L: Ledger>(
     before_it(&mut lists, before, behind, deed, &mut steps)
 }
 
+/// What stands before the node and behind it.
+const PLACES: [(&[u32], &[u32]); 6] = [
+    (&[], &[]),
+    (&[], &[1]),
+    (&[1], &[]),
+    (&[], &[1, 2]),
+    (&[1], &[2]),
+    (&[1, 2], &[]),
+];
+
+/// A deed, what its list has then at each of these places, and what the other list has.
+const ROWS: [(Deed, [[u32; 3]; 6], u32); 5] = [
+    (
+        Deed::Leave,
+        [
+            [9, 0, 0],
+            [9, 1, 0],
+            [1, 9, 0],
+            [9, 1, 2],
+            [1, 9, 2],
+            [1, 2, 9],
+        ],
+        0,
+    ),
+    (
+        Deed::Read,
+        [
+            [9, 9, 1],
+            [9, 9, 1],
+            [1, 9, 1],
+            [9, 9, 1],
+            [1, 9, 1],
+            [1, 9, 1],
+        ],
+        0,
+    ),
+    (
+        Deed::Remove,
+        [
+            [0, 0, 0],
+            [1, 0, 0],
+            [1, 0, 0],
+            [1, 2, 0],
+            [1, 2, 0],
+            [1, 2, 0],
+        ],
+        0,
+    ),
+    (
+        Deed::MoveHere,
+        [
+            [9, 0, 0],
+            [1, 9, 0],
+            [1, 9, 0],
+            [1, 2, 9],
+            [1, 2, 9],
+            [1, 2, 9],
+        ],
+        0,
+    ),
+    (
+        Deed::MoveAway,
+        [
+            [0, 0, 0],
+            [1, 0, 0],
+            [1, 0, 0],
+            [1, 2, 0],
+            [1, 2, 0],
+            [1, 2, 0],
+        ],
+        9,
+    ),
+];
+
 #[test]
 fn nodes_leave_and_move(rt: HostRuntime) {
-    let places: [(&[u32], &[u32]); 6] = [
-        (&[], &[]),
-        (&[], &[1]),
-        (&[1], &[]),
-        (&[], &[1, 2]),
-        (&[1], &[2]),
-        (&[1, 2], &[]),
-    ];
-    let rows = [
-        (
-            Deed::Leave,
-            [
-                [9, 0, 0],
-                [9, 1, 0],
-                [1, 9, 0],
-                [9, 1, 2],
-                [1, 9, 2],
-                [1, 2, 9],
-            ],
-            0,
-        ),
-        (
-            Deed::Read,
-            [
-                [9, 9, 1],
-                [9, 9, 1],
-                [1, 9, 1],
-                [9, 9, 1],
-                [1, 9, 1],
-                [1, 9, 1],
-            ],
-            0,
-        ),
-        (
-            Deed::Remove,
-            [
-                [0, 0, 0],
-                [1, 0, 0],
-                [1, 0, 0],
-                [1, 2, 0],
-                [1, 2, 0],
-                [1, 2, 0],
-            ],
-            0,
-        ),
-        (
-            Deed::MoveHere,
-            [
-                [9, 0, 0],
-                [1, 9, 0],
-                [1, 9, 0],
-                [1, 2, 9],
-                [1, 2, 9],
-                [1, 2, 9],
-            ],
-            0,
-        ),
-        (
-            Deed::MoveAway,
-            [
-                [0, 0, 0],
-                [1, 0, 0],
-                [1, 0, 0],
-                [1, 2, 0],
-                [1, 2, 0],
-                [1, 2, 0],
-            ],
-            9,
-        ),
-    ];
-    for (deed, here, away) in rows {
-        for ((before, behind), first) in places.into_iter().zip(here) {
+    for (deed, here, away) in ROWS {
+        for ((before, behind), first) in PLACES.into_iter().zip(here) {
             let got = after::<Brand>(rt.alloc(), before, behind, deed, Blank::new(1));
             same(&rt, &got, &Some([first, [away, 0, 0]]));
         }
     }
 }
 
-/// What is read of the only node: its value at the front, by its name, whether it is in before and after it was taken.
-fn read_and_retire<L: Ledger>(alloc: Global, blank: Blank) -> Option<(u32, u32, [bool; 2], u32)>
+/// What is read of the only node: its value at the front and as it is taken, by its name, whether it is in before and after that.
+fn read_and_retire<L: Ledger>(
+    alloc: Global,
+    blank: Blank,
+) -> Option<([Option<u32>; 2], u32, [bool; 2])>
     requires { (blank.name ≡ L.name) × (blank.parts ≡ L.parts) × (0 < L.parts) }
 {
     let mut steps = Steps::<L>::open(blank);
@@ -281,13 +288,13 @@ fn read_and_retire<L: Ledger>(alloc: Global, blank: Blank) -> Option<(u32, u32, 
     let taken = next(&mut lists, 0);
     let after = lists.is_in(&node);
     give_back(&mut lists, node, &mut steps);
-    Some((front?, value, [before, after], taken?))
+    Some(([front, taken], value, [before, after]))
 }
 
 #[test]
 fn a_taken_node_is_retired(rt: HostRuntime) {
     let read = read_and_retire::<Brand>(rt.alloc(), Blank::new(1));
-    same(&rt, &read, &Some((9, 9, [true, false], 9)));
+    same(&rt, &read, &Some(([Some(9), Some(9)], 9, [true, false])));
 }
 
 fn crosses<X: Send>(x: X) -> X {

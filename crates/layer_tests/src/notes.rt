@@ -14,7 +14,8 @@ use flow_notes::{
     note_text,
 };
 use io_ports::{NoMemory, Octets};
-use std::alloc::Global;
+use std::alloc::{AllocGlobal, Global};
+use std::process::Abort;
 
 const REQUEST: FlowId = FlowId {
     exchange: 1,
@@ -202,24 +203,32 @@ fn events_are_written(rt: HostRuntime) -> Result<(), NoMemory> {
     Ok(())
 }
 
+const BAD: [&[u8]; 5] = [b"", b"Web", b"a b", b"a.b", b"a\n"];
+
 // Names that are refused leave the list as it is.
+fn bad_names_are_refused(rt: &impl Abort, names: &mut Names) {
+    for bad in BAD {
+        same(rt, &names.push(bad), &Err(NameRefusal::BadForm));
+    }
+    same(rt, &names.push(b"web"), &Err(NameRefusal::Doubled));
+}
+
+// A name has 64 octets at most.
+fn long_names_are_refused(
+    rt: &(impl AllocGlobal + Abort),
+    names: &mut Names,
+) -> Result<(), NoMemory> {
+    let long = vec![in rt.alloc(); b'a'; 65]?;
+    same(rt, &names.push(long.as_slice()), &Err(NameRefusal::BadForm));
+    same(rt, &names.push(&long[..64]), &Ok(()));
+    Ok(())
+}
+
 #[test]
 fn names_are_kept(rt: HostRuntime) -> Result<(), NoMemory> {
-    let alloc = rt.alloc();
-    let mut names = some_names(alloc)?;
-    let long = vec![in alloc; b'a'; 65]?;
-    for bad in [
-        b"".as_slice(),
-        b"Web",
-        b"a b",
-        b"a.b",
-        b"a\n",
-        long.as_slice(),
-    ] {
-        same(&rt, &names.push(bad), &Err(NameRefusal::BadForm));
-    }
-    same(&rt, &names.push(b"web"), &Err(NameRefusal::Doubled));
-    same(&rt, &names.push(&long[..64]), &Ok(()));
+    let mut names = some_names(rt.alloc())?;
+    bad_names_are_refused(&rt, &mut names);
+    long_names_are_refused(&rt, &mut names)?;
     assert!(rt; names.len() == 3);
     same(&rt, &names.find(b"api-2_b"), &Some(1));
     same(&rt, &names.find(b"nobody"), &None);

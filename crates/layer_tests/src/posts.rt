@@ -182,7 +182,7 @@ fn two_are_drained<R: Wait + Abort>(
     let cancel = Job::Cancel { exchange: 7 };
     same(rt, &posts.post(rt, pass, Job::Look), &Ok(0));
     same(rt, &posts.post(rt, pass, cancel), &Ok(1));
-    let both = posts.drain(rt, alloc, runner)?;
+    let both = posts.drain_if_any(rt, alloc, runner)?;
     let wanted = [
         Post {
             poster: 0,
@@ -196,7 +196,7 @@ fn two_are_drained<R: Wait + Abort>(
         },
     ];
     same(rt, &both.as_slice(), &wanted.as_slice());
-    holds(rt, posts.drain(rt, alloc, runner)?.is_empty());
+    holds(rt, posts.drain_if_any(rt, alloc, runner)?.is_empty());
     Ok(())
 }
 

@@ -6,9 +6,10 @@ ghost use Rattle.scaled_timer.specs.Timing.{AreHeld};
 use crate::said::{holds, same, same_in};
 use link_lists::Steps;
 use scaled_timer::{Fired, Timer, TimerKind, Timers};
-use std::alloc::Global;
+use std::alloc::{AllocGlobal, Global};
 use std::collections::VecDeque;
 use std::marker::Brand;
+use std::process::Abort;
 use std::sync::ledger::{Blank, Ledger};
 
 fn none_held(alloc: Global, timers: &Timers) -> VecDeque<Timer>
@@ -116,7 +117,7 @@ fn pair(min: u64, max: u64) -> TimerKind
 }
 
 /// One timer of 1,000 to 5,000 milliseconds, armed at 0: what turns at 3,000 give under the states 0 and 500,000.
-fn shrunk<L: Ledger>(alloc: Global, blank: Blank) -> Option<[Vec<Fired>; 2]>
+fn shrunk<L: Ledger>(alloc: Global, blank: Blank) -> Option<[Option<Vec<Fired>>; 2]>
     requires { (blank.name ≡ L.name) × (blank.parts ≡ L.parts) × (0 < L.parts) }
 {
     let mut steps = Steps::<L>::open(blank);
@@ -127,7 +128,7 @@ fn shrunk<L: Ledger>(alloc: Global, blank: Blank) -> Option<[Vec<Fired>; 2]>
     set_state(&mut timers, &held, 500_000);
     let after = turn(alloc, &mut timers, &held, 3000);
     give_back(&mut timers, held, &mut steps);
-    if armed { Some([before?, after?]) } else { None }
+    if armed { Some([before, after]) } else { None }
 }
 
 #[test]
@@ -135,82 +136,103 @@ fn a_timer_is_due_as_the_state_rises(rt: HostRuntime) {
     let got = shrunk::<Brand>(rt.alloc(), Blank::new(1));
     holds(&rt, got.is_some());
     if let Some([before, after]) = got {
-        holds(&rt, before.is_empty());
-        same(
-            &rt,
-            &after.as_slice(),
-            &[Fired { kind: 0, id: 7 }].as_slice(),
-        );
+        fired_are(&rt, before, &[]);
+        fired_are(&rt, after, &[Fired { kind: 0, id: 7 }]);
     }
 }
 
-/// Timers of two kinds, of 30 and 20 milliseconds. Those armed at 0 and 10 are due at 30 both, and one at 25.
-fn equal<L: Ledger>(alloc: Global, blank: Blank) -> Option<Vec<Fired>>
-    requires { (blank.name ≡ L.name) × (blank.parts ≡ L.parts) × (0 < L.parts) }
+fn fired_are(rt: &impl Abort, got: Option<Vec<Fired>>, wanted: &[Fired]) {
+    match got {
+        Some(fired) => same(rt, &fired.as_slice(), &wanted),
+        None => holds(rt, false),
+    }
+}
+
+/// Arms timers of three kinds, one after the other: the kind, the number and the moment of each, which is 36 at most.
+fn arm_all<L: Ledger>(
+    timers: &mut Timers,
+    held: &mut VecDeque<Timer>,
+    arms: &[(u32, u64, u64)],
+    steps: &mut Steps<L>,
+) -> bool
+    requires held { AreHeld held.old.items timers.old }
+    requires kinds { length timers.old.kinds ≡ 3 }
+    requires first { timers.old.latest ≡ 0 }
+    ensures held { AreHeld held.new.items timers.new }
+    ensures latest { timers.new.latest ≤ 36 }
 {
-    let mut steps = Steps::<L>::open(blank);
-    let mut timers = Timers::new(alloc, &[pair(30, 30), pair(20, 20)]).ok()?;
-    let mut held = none_held(alloc, &timers);
-    let mut armed = arm(&mut timers, &mut held, 0, 1, 0, &mut steps);
-    armed &= arm(&mut timers, &mut held, 1, 2, 5, &mut steps);
-    armed &= arm(&mut timers, &mut held, 1, 3, 10, &mut steps);
-    armed &= arm(&mut timers, &mut held, 0, 4, 10, &mut steps);
-    let fired = turn(alloc, &mut timers, &held, 30);
-    give_back(&mut timers, held, &mut steps);
-    if armed { fired } else { None }
-}
-
-#[test]
-fn equal_moments_go_by_arming(rt: HostRuntime) {
-    let got = equal::<Brand>(rt.alloc(), Blank::new(1));
-    holds(&rt, got.is_some());
-    if let Some(fired) = got {
-        let wanted = [
-            Fired { kind: 1, id: 2 },
-            Fired { kind: 0, id: 1 },
-            Fired { kind: 1, id: 3 },
-        ];
-        same(&rt, &fired.as_slice(), &wanted.as_slice());
+    let mut last = 0u64;
+    for one in arms {
+        let (kind, id, now) = *one;
+        if kind >= 3 || now < last || now > 36 {
+            return false;
+        }
+        last = now;
+        if !arm(timers, held, kind, id, now, steps) {
+            return false;
+        }
     }
+    true
 }
 
-/// Timers of three kinds, of 30, 20 and 10 milliseconds, of which several of each kind are due at 36.
-fn merged<L: Ledger>(alloc: Global, blank: Blank) -> Option<Vec<Fired>>
+/// Timers of three kinds, of 30, 20 and 10 milliseconds, that are armed so: what fires at 36.
+fn fired_of<L: Ledger>(alloc: Global, arms: &[(u32, u64, u64)], blank: Blank) -> Option<Vec<Fired>>
     requires { (blank.name ≡ L.name) × (blank.parts ≡ L.parts) × (0 < L.parts) }
 {
     let mut steps = Steps::<L>::open(blank);
     let mut timers = Timers::new(alloc, &[pair(30, 30), pair(20, 20), pair(10, 10)]).ok()?;
     let mut held = none_held(alloc, &timers);
-    let mut armed = arm(&mut timers, &mut held, 0, 1, 0, &mut steps);
-    armed &= arm(&mut timers, &mut held, 1, 2, 2, &mut steps);
-    armed &= arm(&mut timers, &mut held, 2, 3, 4, &mut steps);
-    armed &= arm(&mut timers, &mut held, 0, 4, 6, &mut steps);
-    armed &= arm(&mut timers, &mut held, 1, 5, 8, &mut steps);
-    armed &= arm(&mut timers, &mut held, 2, 6, 10, &mut steps);
-    armed &= arm(&mut timers, &mut held, 0, 7, 12, &mut steps);
-    armed &= arm(&mut timers, &mut held, 2, 8, 20, &mut steps);
+    let armed = arm_all(&mut timers, &mut held, arms, &mut steps);
     let fired = turn(alloc, &mut timers, &held, 36);
     give_back(&mut timers, held, &mut steps);
     if armed { fired } else { None }
 }
 
+fn fires(rt: &(impl AllocGlobal + Abort), arms: &[(u32, u64, u64)], wanted: &[Fired]) {
+    let got = fired_of::<Brand>(rt.alloc(), arms, Blank::new(1));
+    fired_are(rt, got, wanted);
+}
+
+// Of those armed at 0, 5 and 10 one is due at 25 and two at 30.
+#[test]
+fn equal_moments_go_by_arming(rt: HostRuntime) {
+    fires(&rt, &EQUAL, &EQUAL_FIRED);
+}
+
+const EQUAL: [(u32, u64, u64); 4] = [(0, 1, 0), (1, 2, 5), (1, 3, 10), (0, 4, 10)];
+
+const EQUAL_FIRED: [Fired; 3] = [
+    Fired { kind: 1, id: 2 },
+    Fired { kind: 0, id: 1 },
+    Fired { kind: 1, id: 3 },
+];
+
+// Several of each kind are due.
 #[test]
 fn kinds_are_merged(rt: HostRuntime) {
-    let got = merged::<Brand>(rt.alloc(), Blank::new(1));
-    holds(&rt, got.is_some());
-    if let Some(fired) = got {
-        let wanted = [
-            Fired { kind: 2, id: 3 },
-            Fired { kind: 2, id: 6 },
-            Fired { kind: 1, id: 2 },
-            Fired { kind: 1, id: 5 },
-            Fired { kind: 0, id: 1 },
-            Fired { kind: 2, id: 8 },
-            Fired { kind: 0, id: 4 },
-        ];
-        same(&rt, &fired.as_slice(), &wanted.as_slice());
-    }
+    fires(&rt, &MERGED, &MERGED_FIRED);
 }
+
+const MERGED: [(u32, u64, u64); 8] = [
+    (0, 1, 0),
+    (1, 2, 2),
+    (2, 3, 4),
+    (0, 4, 6),
+    (1, 5, 8),
+    (2, 6, 10),
+    (0, 7, 12),
+    (2, 8, 20),
+];
+
+const MERGED_FIRED: [Fired; 7] = [
+    Fired { kind: 2, id: 3 },
+    Fired { kind: 2, id: 6 },
+    Fired { kind: 1, id: 2 },
+    Fired { kind: 1, id: 5 },
+    Fired { kind: 0, id: 1 },
+    Fired { kind: 2, id: 8 },
+    Fired { kind: 0, id: 4 },
+];
 
 /// 10,000 timers of one kind, of which each third from the first is disarmed once all are armed.
 fn thirds<L: Ledger>(alloc: Global, blank: Blank) -> Option<Vec<Fired>>

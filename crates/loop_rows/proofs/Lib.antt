@@ -1,3 +1,4 @@
+mod Fitting
 pub mod Spelled
 mod Started
 mod Starting

@@ -2,7 +2,8 @@
 //! worker the turns at which its gate was passed, its journal, how many dispatches and notes there were, what the connections gave,
 //! were offered and were closed, how many permits are kept, and with which status and how many notes the journal replays. Before
 //! the cases it does what `h2replay` does with this program's own words, if it has any (the gate gives it `drill 20`, and `h2replay`
-//! itself `plain`).
+//! itself `plain`). With the words `bench BENCH` it runs a bench of the core of wire sessions, of a live worker over it or of the
+//! drill instead, by hand, and with `bench` alone it prints which there are, as with a case whose first line is `bench`.
 //!
 //! A case begins with a line `## NAME`. Lines `| TEXT` are the configuration's. A line `$ TURNS MOST PERMITS` has how many turns
 //! there are, how many octets an offer takes at most, and how many permits; `% tokens N` meters the client connections with N
@@ -37,6 +38,7 @@
 //! `% gauge K` fail.
 #![tactic(auto)]
 
+mod bench;
 mod case;
 mod gates;
 mod meeting;
@@ -67,25 +69,52 @@ use std::io::{self, Read};
 use std::sync::Wait;
 use std::thread::Threads;
 
-fn main(rt: HostRuntime) -> io::Result<()> {
-    if has_words(&rt)? {
-        println!(rt; "## h2replay with this program's words")?;
-        replay_words(&rt, io::empty(), rt.stdout());
+/// What the program's own words ask for.
+#[derive(Drop)]
+enum Asked {
+    Cases,
+    Replay,
+    Bench { name: String, one: u32, two: u32 },
+}
+
+fn main(rt: HostRuntime) -> anyhow::Result<()> {
+    match asked(&rt)? {
+        Asked::Bench { name, one, two } => bench::run(&rt, name.as_str(), one, two),
+        Asked::Replay => {
+            println!(rt; "## h2replay with this program's words")?;
+            replay_words(&rt, io::empty(), rt.stdout());
+            show_cases(&rt)
+        }
+        Asked::Cases => show_cases(&rt),
     }
+}
+
+fn show_cases<R: Print + Input + AllocGlobal + Threads + Wait + Sync>(
+    rt: &R,
+) -> anyhow::Result<()> {
     let mut text = Vec::new(rt.alloc());
     rt.reader().read_to_end(&mut text)?;
     let text = std::str::from_utf8(text.as_slice()).unwrap_or("");
     for case in text.split("## ").skip(1) {
-        show_case(&rt, case)?;
+        show_case(rt, case)?;
     }
     Ok(())
 }
 
-// Whether the program was given words.
-fn has_words<R: Env + AllocGlobal>(rt: &R) -> io::Result<bool> {
+fn asked<R: Env + AllocGlobal>(rt: &R) -> io::Result<Asked> {
     let mut words = env::args(rt)?;
     let _program = words.next();
-    Ok(words.next().is_some())
+    let Some(first) = words.next() else {
+        return Ok(Asked::Cases);
+    };
+    if first.as_str() != "bench" {
+        return Ok(Asked::Replay);
+    }
+    Ok(Asked::Bench {
+        name: words.next().unwrap_or(String::new(rt.alloc())),
+        one: bench::number(words.next()),
+        two: bench::number(words.next()),
+    })
 }
 
 // Runs the case of this text, and prints how it ends.
@@ -96,11 +125,18 @@ fn show_case<R: Print + AllocGlobal + Threads + Wait + Sync>(rt: &R, text: &str)
         "relay" => show_relay(rt, name, rest),
         "replay" => show_replay(rt, name, rest),
         "codes" => show_codes(rt, name),
+        "bench" => show_benches(rt, name),
         _ => match first.strip_prefix("text ") {
             Some(which) => show_texts(rt, name, which),
             None => show_worker(rt, name, lines),
         },
     }
+}
+
+// Prints which benches there are.
+fn show_benches<R: Print>(rt: &R, name: &str) -> io::Result<()> {
+    println!(rt; "## {name}")?;
+    bench::usage(rt)
 }
 
 fn show_worker<R: Print + AllocGlobal + Threads + Wait + Sync>(

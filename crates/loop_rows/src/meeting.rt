@@ -150,24 +150,23 @@ fn meet_at<R: Threads + Wait + Sync>(
     gates: Gates,
 ) -> Result<(bool, bool), NoMemory> {
     let names = names_of_defaults(alloc)?;
-    let (places, first, second) = makings(rt, alloc, &names)?;
-    Ok(meet_over(rt, alloc, names, places, first, second, gates))
+    let places = Places::new(rt, alloc)?;
+    meet_in(rt, alloc, names, places, gates)
 }
 
-// What two workers share, and what each is made of. A great value is dropped by a call, since the check follows a drop without one field
-// by field.
-fn makings<R: Wait>(
+// What two workers share stands; what each is made of is made. A great value is dropped by a call, since the check follows a drop without
+// one field by field.
+fn meet_in<R: Threads + Wait + Sync>(
     rt: &R,
     alloc: Global,
-    names: &Names,
-) -> Result<(Places, Parts, Parts), NoMemory>
-    ensures places { IfOk result (λ made. ArePlaces made.0.permits made.0.seat made.0.other_seat made.0.posts.items (vec_capacity made.0.posts)) }
-    ensures first { IfOk result (λ made. AreParts names.now made.1.core.kind made.1.posts made.1.pass made.1.wires) }
-    ensures second { IfOk result (λ made. AreParts names.now made.2.core.kind made.2.posts made.2.pass made.2.wires) }
+    names: Names,
+    places: Places,
+    gates: Gates,
+) -> Result<(bool, bool), NoMemory>
+    requires { ArePlaces places.permits places.seat places.other_seat places.posts.items (vec_capacity places.posts) }
 {
-    let places = Places::new(rt, alloc)?;
-    match two_parts(alloc, names) {
-        Ok((first, second)) => Ok((places, first, second)),
+    match two_parts(alloc, &names) {
+        Ok((first, second)) => Ok(meet_over(rt, alloc, names, places, first, second, gates)),
         Err(NoMemory) => {
             drop(places);
             Err(NoMemory)

@@ -126,28 +126,15 @@ fn run_worker<R: AllocGlobal + Wait>(
         return;
     }
     let wires = match case.tokens {
-        None => run_bare(rt, core, names, stage, wires, case, said),
+        None => {
+            let mut wires = wires;
+            run_turns(rt, core, names, stage, &mut wires, case, said);
+            wires
+        }
         Some(tokens) => run_metered(rt, core, names, stage, wires, tokens, case, said),
     };
     say_whole(rt.alloc(), case, &stage.journal, &wires, said);
     drop(wires);
-}
-
-fn run_bare<R: AllocGlobal + Wait>(
-    rt: &R,
-    core: &mut Core,
-    names: &Names,
-    stage: &mut Stage,
-    mut wires: MemWires,
-    case: &Case,
-    said: &mut Said,
-) -> MemWires
-    requires core { RestsWire core.old.kind }
-    requires ready { IsReady stage.old.desk }
-    requires fresh { IsFresh names.now (seen_of wires) }
-{
-    run_turns(rt, core, names, stage, &mut wires, case, said);
-    wires
 }
 
 // Each client's connection takes one of so many tokens.
@@ -165,13 +152,15 @@ fn run_metered<R: AllocGlobal + Wait>(
     requires ready { IsReady stage.old.desk }
     requires fresh { IsFresh names.now (seen_of wires) }
 {
-    match bucket_of(rt.alloc(), tokens) {
-        Ok((bucket, seat)) => run_taking(rt, core, names, stage, wires, &bucket, seat, case, said),
-        Err(NoMemory) => {
-            said.lack();
-            wires
-        }
-    }
+    let Ok((bucket, seat)) = bucket_of(rt.alloc(), tokens) else {
+        said.lack();
+        return wires;
+    };
+    let mut metered = MeteredWires::new(wires, &bucket, seat);
+    run_turns(rt, core, names, stage, &mut metered, case, said);
+    let (wires, seat) = metered.into_inner();
+    said.line_with("tokens taken ", bucket.taken(&seat));
+    wires
 }
 
 // A bucket with so many tokens.
@@ -184,29 +173,6 @@ fn bucket_of(alloc: Global, tokens: u64) -> Result<(Bucket, TokenSeat), NoMemory
         Some(seat) => Ok((bucket, seat)),
         None => Err(NoMemory),
     }
-}
-
-fn run_taking<R: AllocGlobal + Wait>(
-    rt: &R,
-    core: &mut Core,
-    names: &Names,
-    stage: &mut Stage,
-    wires: MemWires,
-    bucket: &Bucket,
-    seat: TokenSeat,
-    case: &Case,
-    said: &mut Said,
-) -> MemWires
-    requires core { RestsWire core.old.kind }
-    requires ready { IsReady stage.old.desk }
-    requires fresh { IsFresh names.now (seen_of wires) }
-    requires seat { IsSeatOf bucket.now seat }
-{
-    let mut metered = MeteredWires::new(wires, bucket, seat);
-    run_turns(rt, core, names, stage, &mut metered, case, said);
-    let (wires, seat) = metered.into_inner();
-    said.line_with("tokens taken ", bucket.taken(&seat));
-    wires
 }
 
 // Runs the turns as often as the case says, and gives the permits back.

@@ -112,7 +112,8 @@ fn staged<R: AllocGlobal + Wait>(
 }
 
 impl Desk {
-    fn new<R: AllocGlobal + Wait>(
+    /// A desk with what the script posts and publishes, and so many permits.
+    pub fn new<R: AllocGlobal + Wait>(
         rt: &R,
         config: &Config,
         script: &Script,

@@ -1,5 +1,5 @@
 // The box: how it is made, and posting and draining.
-ghost use Rattle.std.specs.Prelude.{◌≡◌, ◌+◌, ◌<◌, ◌≤◌, ◌++◌, ◌∷◌, [], length, vec_len, vec_capacity, All, IfOk, MatchResult, OnOk, OnErr, true};
+ghost use Rattle.std.specs.Prelude.{◌≡◌, ◌+◌, ◌<◌, ◌≤◌, ◌++◌, ◌∷◌, [], length, vec_len, vec_capacity, All, IfOk, MatchResult, OnOk, OnErr, false, true};
 ghost use Rattle.crossbeam_queue.specs.SegTies.{IsSegPassOf};
 ghost use Rattle.post_queue.specs.declared.posts.PostRefusal.TheVariants as refusals;
 ghost use Rattle.post_queue.specs.Pass.{view};
@@ -149,6 +149,47 @@ impl PostBox {
         self.take_up_to(rt, &mut pass.pass, &mut posts);
         pass.taken += posts.len() as u64;
         Ok(PostList { posts })
+    }
+
+    /// As `drain`, but takes no memory where it finds the box empty. After `NoMemory` nothing was taken, and the pass knows
+    /// what it knew.
+    pub fn drain_if_any<R: Wait>(
+        &self,
+        rt: &R,
+        alloc: Global,
+        pass: &mut RunnerPass,
+    ) -> Result<PostList, NoMemory>
+        requires { IsRunnerOf self.now pass.old }
+        ensures pass { IsRunnerOf self.now pass.new }
+        ensures len { IfOk result (λ posts. length posts ≤ 64) }
+        ensures ran { IfOk result (λ posts. ran_by pass.new ≡ ran_by pass.old ++ posts) }
+        ensures in_order { OnOk result (AreNumbered (ran_by pass.new)) }
+        ensures allowed { IfOk result (λ posts. All IsAllowed posts) }
+        ensures pops { IfOk result (λ posts. pops_of pass.new ≡ pops_of pass.old + pops_for (length posts)) }
+        ensures drains { OnOk result (drains_of pass.new ≡ drains_of pass.old + 1) }
+        ensures err { OnErr result (view pass.new.pass ≡ view pass.old.pass) }
+    {
+        if self.finds_none(&mut pass.pass) {
+            return Ok(PostList::empty(alloc));
+        }
+        self.drain(rt, alloc, pass)
+    }
+
+    // Whether the queue is found empty. Where it is, that is counted as a drain.
+    fn finds_none(&self, pass: &mut SegPass<Post, Hand>) -> bool
+        requires pass { IsSegPassOf self.now.queue pass.old × ((view pass.old).runs ≡ true) × ((view pass.old).known ≡ []) }
+        ensures pass { IsSegPassOf self.now.queue pass.new × ((view pass.new).runs ≡ true) × ((view pass.new).known ≡ []) × ((view pass.new).count ≡ (view pass.old).count) }
+        ensures ran { (view pass.new).ran ≡ (view pass.old).ran }
+        ensures in_order { result ≡ true → AreNumbered (view pass.new).ran }
+        ensures pops { result ≡ true → (view pass.new).pops ≡ (view pass.old).pops + 1 }
+        ensures drains { result ≡ true → (view pass.new).drains ≡ (view pass.old).drains + 1 }
+        ensures same { result ≡ false → view pass.new ≡ view pass.old }
+    {
+        if self.queue.is_empty_as::<Pops>(pass) {
+            self.queue.another::<DrainsShort>(pass);
+            return true;
+        }
+        false
     }
 
     fn take_up_to<R: Wait>(&self, rt: &R, pass: &mut SegPass<Post, Hand>, taken: &mut Vec<Post>)

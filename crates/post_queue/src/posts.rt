@@ -1,7 +1,8 @@
 // A posted job, and lists of them.
-ghost use Rattle.std.specs.Prelude.{◌≡◌, ◌==◌, length};
+ghost use Rattle.std.specs.Prelude.{◌≡◌, ◌==◌, [], length};
 
 use flow_notes::Job;
+use std::alloc::Global;
 use std::error::Error;
 use std::fmt;
 use std::marker::Model;
@@ -46,6 +47,15 @@ impl Model for PostList {
 }
 
 impl PostList {
+    // No posts. It takes no memory.
+    pub(crate) fn empty(alloc: Global) -> Self
+        ensures { result ≡ [] }
+    {
+        PostList {
+            posts: Vec::new(alloc),
+        }
+    }
+
     /// The posts, in the order in which they were taken.
     pub fn as_slice(&self) -> &[Post]
         ensures { result.now ≡ self.now }

@@ -51,7 +51,7 @@ impl Split<Hand> for DrainsFull {
     ghost right = { λ _. idle };
 }
 
-/// A drain that ended with a pop that found nothing is counted, and so is that pop.
+/// A drain that ended where nothing was found is counted, and so is the look that found nothing.
 pub(crate) struct DrainsShort;
 
 impl Split<Hand> for DrainsShort {

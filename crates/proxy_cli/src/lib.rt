@@ -70,28 +70,42 @@ where
     R::Stream: Send,
     R::Listener: Send,
 {
-    let mut config = Input::new(open_config(&rt, words));
     let Ok(counts) = Arc::new(rt.alloc(), ClientCounts::new()) else {
         return end_early(&rt, Status::Memory);
     };
-    let Ok(read) = Arc::try_clone(&counts) else {
-        return end_early(&rt, Status::Memory);
-    };
-    let mut gauge = ClientGauge::new(read);
-    let mut site = SocketSite::new(rt, counts);
+    match Arc::try_clone(&counts) {
+        Ok(read) => {
+            let mut gauge = ClientGauge::new(read);
+            let mut site = SocketSite::new(rt, counts);
+            let code = serve_site(&rt, words, &mut site, &mut gauge, output);
+            drop(site);
+            code
+        }
+        Err(_) => end_early(&rt, Status::Memory),
+    }
+}
+
+fn serve_site<
+    R: Eprint + Files + Net + Clock + Threads + Wait + AllocGlobal + Copy + Drop + Send + Sync,
+    O: Write + Drop,
+>(
+    rt: &R,
+    words: &[String],
+    site: &mut SocketSite<R>,
+    gauge: &mut ClientGauge,
+    output: O,
+) -> ExitCode
+where
+    R::File: Send,
+    R::Stream: Send,
+    R::Listener: Send,
+{
+    let mut config = Input::new(open_config(rt, words));
     let mut out = Output::new(output);
-    let served = serve_proxy(
-        &rt,
-        rt.alloc(),
-        words,
-        &mut config,
-        &mut site,
-        &mut gauge,
-        &mut out,
-    );
+    let served = serve_proxy(rt, rt.alloc(), words, &mut config, site, gauge, &mut out);
     let code = ExitCode::from(served.status.code());
     tell_served(
-        &rt,
+        rt,
         served,
         config.reader().text(),
         config.kind(),

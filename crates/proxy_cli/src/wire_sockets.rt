@@ -14,6 +14,7 @@ use mio_edge::{EdgeFault, MonotonicClock, Sharing, SocketTaps};
 use proxy_config::Config;
 use proxy_site::{Site, SiteRefusal};
 use proxy_wire::WireSite;
+use std::alloc::Global;
 use std::io::{Eprint, Error, ErrorKind};
 use std::net::Net;
 use std::rt::Files;
@@ -51,17 +52,25 @@ impl<R: Eprint + Files + Net + Clock + Wait + AllocGlobal + Copy + Drop> SocketS
     {
         self.set_up(config)?;
         let plan = self.plan(config, Sharing::All, worker)?;
+        let poll = Poll::new(&self.rt)?;
+        let queue = self.worker_queue(&poll)?;
+        let inlet = QueueInlet::new(self.rt, queue);
+        SocketTaps::new(self.rt, self.rt.alloc(), poll, inlet, &plan)
+    }
+
+    // A queue for a worker's clients, which the acceptor fills.
+    fn worker_queue(&mut self, poll: &Poll) -> Result<Arc<AcceptQueue, Global>, EdgeFault>
+        ensures { site_faults self.new ≡ site_faults self.old }
+    {
         let Some(acceptor) = &mut self.acceptor else {
             return Err(EdgeFault::Failed(Error::from(ErrorKind::NotConnected)));
         };
-        let poll = Poll::new(&self.rt)?;
         let made = AcceptQueue::new(self.rt.alloc(), poll.registry())?;
         let Ok(queue) = Arc::new(self.rt.alloc(), made) else {
             return Err(EdgeFault::NoMemory);
         };
         acceptor.add(Arc::try_clone(&queue)?)?;
-        let inlet = QueueInlet::new(self.rt, queue);
-        SocketTaps::new(self.rt, self.rt.alloc(), poll, inlet, &plan)
+        Ok(queue)
     }
 }
 

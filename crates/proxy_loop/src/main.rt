@@ -33,6 +33,7 @@ mod client;
 mod loop_site;
 mod rows;
 mod server;
+mod telling;
 mod web_journal;
 mod web_origin;
 mod web_peer;
@@ -41,17 +42,14 @@ mod web_request;
 mod web_site;
 mod web_user;
 
-use crate::client::LENGTH;
 use crate::loop_site::LoopSite;
 use crate::rows::run_cases;
 use crate::server::Server;
-use crate::web_journal::Kept;
+use crate::telling::{tell_answers, tell_counts, tell_listening, tell_replays};
 use crate::web_origin::Origin;
-use crate::web_replay::replay;
 use crate::web_site::{WORKERS, WebSite};
-use crate::web_user::{Answer, User};
 use anyhow::Result;
-use io_ports::{MemSink, MemSource, Octets};
+use io_ports::{MemSink, MemSource};
 use proxy_cli::{ClientCounts, ClientGauge, SocketSite};
 use proxy_site::serve;
 use proxy_wire::serve_proxy;
@@ -132,17 +130,21 @@ fn run_relay<R: Print + Eprint + Files + Net + Clock + Wait + AllocGlobal + Copy
     text: &[u8],
     site: &mut LoopSite<R>,
 ) -> Result<()> {
-    let mut play = Play::new(rt.alloc(), text, &["relay", "CONFIG", RELAY_TURNS])?;
-    let status = serve(
-        rt.alloc(),
-        play.words.as_slice(),
-        &mut play.config,
-        site,
-        &mut play.out,
-    );
-    let end = tell_relay(&rt, status, play.out.octets(), site);
-    drop(play);
-    end
+    match Play::new(rt.alloc(), text, &["relay", "CONFIG", RELAY_TURNS]) {
+        Ok(mut play) => {
+            let status = serve(
+                rt.alloc(),
+                play.words.as_slice(),
+                &mut play.config,
+                site,
+                &mut play.out,
+            );
+            let end = tell_relay(&rt, status, play.out.octets(), site);
+            drop(play);
+            end
+        }
+        Err(fault) => Err(fault),
+    }
 }
 
 fn tell_relay<R: Print + Eprint + Files + Net + Clock + Wait + AllocGlobal + Copy + Drop>(
@@ -251,9 +253,39 @@ where
     R::Stream: Send,
     R::Listener: Send,
 {
-    let mut play = Play::new(rt.alloc(), text, &["CONFIG", PROXY_TURNS])?;
+    match Play::new(rt.alloc(), text, &["CONFIG", PROXY_TURNS]) {
+        Ok(mut play) => {
+            let status = serve_play(&rt, &mut play, gauge, site);
+            let end = tell_web(&rt, status, text, play.out.octets(), site);
+            drop(play);
+            end
+        }
+        Err(fault) => Err(fault),
+    }
+}
+
+// Serves over a site, and answers the status alone.
+fn serve_play<
+    R: Print
+        + Eprint
+        + Files
+        + Net
+        + Clock
+        + Threads
+        + Wait
+        + AllocGlobal
+        + Copy
+        + Drop
+        + Send
+        + Sync,
+>(rt: &R, play: &mut Play, gauge: &mut ClientGauge, site: &mut WebSite<R>) -> Status
+where
+    R::File: Send,
+    R::Stream: Send,
+    R::Listener: Send,
+{
     let served = serve_proxy(
-        &rt,
+        rt,
         rt.alloc(),
         play.words.as_slice(),
         &mut play.config,
@@ -261,9 +293,9 @@ where
         gauge,
         &mut play.out,
     );
-    let end = tell_web(&rt, served.status, text, play.out.octets(), site);
-    drop(play);
-    end
+    let status = served.status;
+    drop(served);
+    status
 }
 
 fn tell_web<R: Print + Eprint + Files + Net + Clock + Wait + AllocGlobal + Copy + Drop>(
@@ -328,68 +360,4 @@ fn words_of(alloc: Global, all: &[&str]) -> Result<Vec<String>, AllocError> {
         words.push(String::from_str(alloc, word)?)?;
     }
     Ok(words)
-}
-
-fn tell_listening<R: Print>(rt: &R, out: &[u8]) -> Result<()> {
-    if out.starts_with(b"listening 127.0.0.1:") {
-        println!(rt; "it listened on this machine")?;
-    }
-    Ok(())
-}
-
-fn tell_counts<R: Print>(rt: &R, counts: Option<(usize, usize)>, is_over: bool) -> Result<()> {
-    match counts {
-        Some((sent, back)) => {
-            println!(rt; "of {LENGTH} octets {sent} were sent, and {back} came back as they were")?
-        }
-        None => println!(rt; "other octets came back")?,
-    }
-    if is_over {
-        println!(rt; "the server saw the client end")?;
-    }
-    Ok(())
-}
-
-fn tell_answers<R: Print>(rt: &R, user: &Option<User>) -> Result<()> {
-    if let Some(user) = user {
-        for answer in user.answers.as_slice() {
-            tell_answer(rt, answer)?;
-        }
-    }
-    Ok(())
-}
-
-// How many journals replay as they should, and why exchanges ended. All are the client's, so their order is its worker's.
-fn tell_replays<R: Print>(rt: &R, alloc: Global, text: &[u8], kept: &[Kept]) -> Result<()> {
-    let mut as_noted = 0u32;
-    let mut dooms = Octets::new(alloc);
-    for one in kept {
-        let shown = replay(alloc, text, one)?;
-        if shown.is_as_noted {
-            as_noted = as_noted.saturating_add(1);
-        }
-        dooms.push_all(shown.dooms.as_slice())?;
-    }
-    println!(rt; "{as_noted} workers' journals replay to their very notes")?;
-    let dooms = std::str::from_utf8(dooms.as_slice()).unwrap_or("?");
-    for cause in dooms.lines() {
-        println!(rt; "an exchange ended: {cause}")?;
-    }
-    Ok(())
-}
-
-fn tell_answer<R: Print>(rt: &R, answer: &Answer) -> Result<()> {
-    let content = std::str::from_utf8(answer.content.as_slice()).unwrap_or("?");
-    if answer.is_back {
-        let octets = content.len();
-        println!(rt;
-            "{}: {}, and all {octets} octets came back",
-            answer.what, answer.status
-        )?;
-    } else if content.is_empty() {
-        println!(rt; "{}: {}", answer.what, answer.status)?;
-    } else {
-        println!(rt; "{}: {} {content}", answer.what, answer.status)?;
-    }
-    Ok(())
 }

@@ -40,15 +40,36 @@ fn read_cases<R: Print + AllocGlobal + Threads + Wait + Sync + Copy + Drop>(
     let mut is_open = false;
     for line in text.strip_suffix('\n').unwrap_or(text).split('\n') {
         if line.starts_with("## ") {
-            if is_open {
-                show_case(rt, case)?;
-            }
-            println!(rt; "{line}")?;
-            drop(mem::replace(case, Case::new(rt.alloc())));
+            begin_case(rt, line, case, is_open)?;
             is_open = true;
-        } else if case.line(rt.alloc(), line).is_err() {
-            println!(rt; "no memory")?;
+        } else {
+            take_line(rt, line, case)?;
         }
     }
     show_case(rt, case)
+}
+
+// Shows the case before, if there is one, and begins another.
+fn begin_case<R: Print + AllocGlobal + Threads + Wait + Sync + Copy + Drop>(
+    rt: R,
+    line: &str,
+    case: &mut Case,
+    is_open: bool,
+) -> io::Result<()> {
+    if is_open {
+        show_case(rt, case)?;
+    }
+    drop(mem::replace(case, Case::new(rt.alloc())));
+    println!(rt; "{line}")
+}
+
+fn take_line<R: Print + AllocGlobal + Copy + Drop>(
+    rt: R,
+    line: &str,
+    case: &mut Case,
+) -> io::Result<()> {
+    match case.line(rt.alloc(), line) {
+        Ok(()) => Ok(()),
+        Err(_) => println!(rt; "no memory"),
+    }
 }

@@ -14,6 +14,7 @@ use proxy_config::Config;
 use proxy_site::{Site, SiteRefusal};
 use proxy_wire::WireSite;
 use std::io::Eprint;
+use std::mem;
 use std::net::{Net, SocketAddr};
 use std::rt::Files;
 use std::sync::Wait;
@@ -74,7 +75,8 @@ impl<R: Eprint + Files + Net + Clock + Wait + AllocGlobal + Copy + Drop> WebSite
             return;
         }
         if let Ok(stream) = TcpStream::connect(&self.rt, address) {
-            self.user = User::new(self.rt.alloc(), stream).ok();
+            let user = User::new(self.rt.alloc(), stream).ok();
+            drop(mem::replace(&mut self.user, user));
         }
     }
 }

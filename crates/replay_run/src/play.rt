@@ -5,6 +5,7 @@ use plain_core::PlainCore;
 use session_lines::{LineRead, Order, read_session_line};
 use session_run::{Player, Went};
 use std::alloc::Global;
+use std::mem;
 use tape_laws::PlainLimits;
 use tape_summary::{TapeLog, append_notes, write_summary};
 
@@ -52,7 +53,9 @@ impl Play {
         requires { AreLimits limits }
         ensures { OnOk result (IsBegun limits self.old self.new) }
     {
-        self.core = PlainCore::new(self.alloc, limits)?;
+        let core = PlainCore::new(self.alloc, limits)?;
+        // By a call, since the check follows what an assignment drops field by field.
+        drop(mem::replace(&mut self.core, core));
         self.log = TapeLog::new(self.alloc, limits);
         Ok(())
     }

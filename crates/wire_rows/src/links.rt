@@ -1,17 +1,25 @@
 // Connections and exchanges.
 use crate::words::{Answers, next, number, small_number};
 use anyhow::Result;
+use std::alloc::Global;
 use wire_links::{Ends, Links};
 
 /// Prints a case of links, and what each of its calls answers.
 pub fn show(rt: &HostRuntime, line: &str) -> Result<()> {
     let mut links = Links::new(rt.alloc());
-    let mut answers = Answers::new(rt.alloc());
+    let answers = play(rt.alloc(), &mut links, line);
+    drop(links);
+    answers.print(rt, line)
+}
+
+// What the calls answer, one after another.
+fn play(alloc: Global, links: &mut Links, line: &str) -> Answers {
+    let mut answers = Answers::new(alloc);
     for call in line.split(" ; ").skip(1) {
         answers.begin();
-        answer(&mut answers, &mut links, &call_of(call));
+        answer(&mut answers, links, &call_of(call));
     }
-    answers.print(rt, line)
+    answers
 }
 
 // The words of a call: its name, and up to four arguments.

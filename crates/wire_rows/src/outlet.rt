@@ -22,7 +22,9 @@ pub fn show(rt: &HostRuntime, line: &str) -> Result<()> {
     let Some(mut outlet) = new_outlet(rt.alloc(), first) else {
         bail!("no such outlet");
     };
-    play(rt.alloc(), &mut outlet, calls).print(rt, line)
+    let answers = play(rt.alloc(), &mut outlet, calls);
+    drop(outlet);
+    answers.print(rt, line)
 }
 
 // What the calls answer, one after another.

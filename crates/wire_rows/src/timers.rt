@@ -24,13 +24,20 @@ pub fn show(rt: &HostRuntime, line: &str) -> Result<()> {
     let Some(mut clock) = new_clock(rt.alloc(), first) else {
         bail!("no timeouts");
     };
-    let mut answers = Answers::new(rt.alloc());
+    let answers = play(rt.alloc(), &mut clock, calls);
+    drop(clock);
+    answers.print(rt, line)
+}
+
+// What the calls answer, one after another.
+fn play(alloc: Global, clock: &mut Clock, calls: &str) -> Answers {
+    let mut answers = Answers::new(alloc);
     answers.say("new");
     for call in calls.split(" ; ") {
         answers.begin();
-        answer(&mut answers, &mut clock, call);
+        answer(&mut answers, clock, call);
     }
-    answers.print(rt, line)
+    answers
 }
 
 // `new ROUTE STREAM LEAST CONNECTION LEAST`, in milliseconds.

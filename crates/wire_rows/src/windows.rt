@@ -25,6 +25,7 @@ ghost use Rattle.wire_windows.specs.SendWindows.{HasRoom};
 use crate::words::{Answers, small_number};
 use anyhow::Result;
 use h2_windows::{MAX_WINDOW, RecvWindow};
+use std::alloc::Global;
 use wire_windows::{Came, ConnWindows, RecvStream, RecvWindows, SendWindows};
 
 pub fn show(rt: &HostRuntime, line: &str) -> Result<()> {
@@ -32,12 +33,19 @@ pub fn show(rt: &HostRuntime, line: &str) -> Result<()> {
     let (_, sizes) = first.split_once(' ').unwrap_or((first, ""));
     let (connection, stream) = pair(sizes);
     let mut windows = ConnWindows::new(rt.alloc(), at_least_first(connection), stream);
-    let mut answers = Answers::new(rt.alloc());
+    let answers = play(rt.alloc(), &mut windows, calls);
+    drop(windows);
+    answers.print(rt, line)
+}
+
+// What the calls answer, one after another.
+fn play(alloc: Global, windows: &mut ConnWindows, calls: &str) -> Answers {
+    let mut answers = Answers::new(alloc);
     for call in calls.split(" ; ") {
         answers.begin();
-        answer(&mut answers, &mut windows, call);
+        answer(&mut answers, windows, call);
     }
-    answers.print(rt, line)
+    answers
 }
 
 // Each side of the windows knows its own calls.

@@ -150,7 +150,7 @@ fn take_turn<R: Wait, W: Wires, C: Clock, J: Journal>(
     let tick = Event::Tick { now: clock.now() };
     carry_out(core, permits, seat, held, wires, journal, names, pad, &tick)?;
     drop(tick);
-    let list = match posts.drain(rt, alloc, pass) {
+    let list = match posts.drain_if_any(rt, alloc, pass) {
         Ok(list) => list,
         Err(NoMemory) => return Err(Ended::Memory),
     };

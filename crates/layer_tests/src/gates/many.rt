@@ -1,4 +1,4 @@
-// Many buffers of one flow, many flows, and many watchers of one buffer. What a call costs among 200,000 flows `bench_main gates`
+// Many buffers of one flow, many flows, and many watchers of one buffer. What a call costs among 200,000 flows `wire_rows bench gates`
 // measures.
 use super::Call::{BeginLow, Forget, High, NextLow, OpenBuffer, OpenFlow, Watch};
 use super::{Answer, DONE, FIRST, LOW, NOBODY, SHARED, count, make, make_one};
@@ -9,19 +9,26 @@ use std::process::Abort;
 
 const MANY: u64 = 2_000;
 
+/// A flow watches four buffers that rise.
+fn four_rise(rt: &impl Abort, gates: &mut Gates) -> Result<(), NoMemory> {
+    make_one(rt, gates, OpenFlow(FIRST))?;
+    for n in 1..=4 {
+        let buffer = BufferId::Write(n);
+        for call in [OpenBuffer(buffer), Watch(FIRST, buffer), High(buffer)] {
+            make_one(rt, gates, call)?;
+        }
+        same(rt, &count(gates, FIRST), &Some(u64::from(n)));
+    }
+    Ok(())
+}
+
 // Each of the buffers that a flow watches counts, be they few or many.
 #[test]
 fn each_buffer_counts(rt: HostRuntime) -> Result<(), NoMemory> {
     let mut gates = Gates::new(rt.alloc());
-    make_one(&rt, &mut gates, OpenFlow(FIRST))?;
-    for n in 1..=4 {
-        let buffer = BufferId::Write(n);
-        for call in [OpenBuffer(buffer), Watch(FIRST, buffer), High(buffer)] {
-            make_one(&rt, &mut gates, call)?;
-        }
-        same(&rt, &count(&gates, FIRST), &Some(u64::from(n)));
-    }
-    Ok(())
+    let end = four_rise(&rt, &mut gates);
+    drop(gates);
+    end
 }
 
 /// A flow by its exchange, with its send buffer.
@@ -57,21 +64,28 @@ fn rise_and_drain(rt: &impl Abort, gates: &mut Gates, exchange: u64) -> Result<(
     Ok(())
 }
 
+/// All flows come, rise and drain, and are free.
+fn all_rise_and_drain(rt: &impl Abort, gates: &mut Gates) -> Result<(), NoMemory> {
+    for exchange in 1..=MANY {
+        open(rt, gates, exchange)?;
+    }
+    for exchange in 1..=MANY {
+        rise_and_drain(rt, gates, exchange)?;
+    }
+    for exchange in 1..=MANY {
+        let (flow, _) = sending(exchange);
+        same(rt, &count(gates, flow), &Some(0));
+    }
+    Ok(())
+}
+
 // 2,000 flows, each with a send buffer of its own.
 #[test]
 fn many_flows_rise_and_drain(rt: HostRuntime) -> Result<(), NoMemory> {
     let mut gates = Gates::new(rt.alloc());
-    for exchange in 1..=MANY {
-        open(&rt, &mut gates, exchange)?;
-    }
-    for exchange in 1..=MANY {
-        rise_and_drain(&rt, &mut gates, exchange)?;
-    }
-    for exchange in 1..=MANY {
-        let (flow, _) = sending(exchange);
-        same(&rt, &count(&gates, flow), &Some(0));
-    }
-    Ok(())
+    let end = all_rise_and_drain(&rt, &mut gates);
+    drop(gates);
+    end
 }
 
 /// All flows watch the buffer, which rises and drains.
@@ -113,13 +127,20 @@ fn the_others_leave(rt: &impl Abort, gates: &mut Gates) -> Result<(), NoMemory> 
     Ok(())
 }
 
+/// They come, and go.
+fn all_come_and_go(rt: &impl Abort, gates: &mut Gates) -> Result<(), NoMemory> {
+    all_watch(rt, gates)?;
+    half_leave(rt, gates)?;
+    the_others_leave(rt, gates)?;
+    holds(rt, !gates.is_watched(SHARED));
+    Ok(())
+}
+
 // 2,000 flows watch one buffer, and leave it while others are told.
 #[test]
 fn many_watchers_come_and_go(rt: HostRuntime) -> Result<(), NoMemory> {
     let mut gates = Gates::new(rt.alloc());
-    all_watch(&rt, &mut gates)?;
-    half_leave(&rt, &mut gates)?;
-    the_others_leave(&rt, &mut gates)?;
-    holds(&rt, !gates.is_watched(SHARED));
-    Ok(())
+    let end = all_come_and_go(&rt, &mut gates);
+    drop(gates);
+    end
 }

@@ -4,7 +4,6 @@ use crate::said::{holds, holds_in, same};
 use flow_gate::{BufferId, FlowId, Gates};
 use flow_notes::{Note, Notes, Passage};
 use io_ports::NoMemory;
-use std::alloc::Global;
 use std::process::Abort;
 
 const WRITE: BufferId = BufferId::Write(2);
@@ -46,9 +45,8 @@ fn assert_passages(rt: &impl Abort, notes: &Notes, wanted: &[Wanted<'_>]) {
     same(rt, &place, &wanted.len());
 }
 
-/// Gates where two flows watch a write buffer.
-fn watched(alloc: Global) -> Result<Gates, NoMemory> {
-    let mut gates = Gates::new(alloc);
+/// Two flows watch a write buffer.
+fn watch(gates: &mut Gates) -> Result<(), NoMemory> {
     for flow in [REQUEST, RESPONSE] {
         if !gates.is_open(flow) {
             gates.open_flow(flow)?;
@@ -62,7 +60,7 @@ fn watched(alloc: Global) -> Result<Gates, NoMemory> {
             let _ = gates.watch(flow, WRITE)?;
         }
     }
-    Ok(gates)
+    Ok(())
 }
 
 fn push_rows(gates: &Gates, notes: &mut Notes) -> Result<(), NoMemory> {
@@ -74,12 +72,10 @@ fn push_rows(gates: &Gates, notes: &mut Notes) -> Result<(), NoMemory> {
     notes.push_resumes(gates.watchers(WRITE), 9, WRITE)
 }
 
-#[test]
-fn rows_are_passages(rt: HostRuntime) -> Result<(), NoMemory> {
-    let alloc = rt.alloc();
-    let gates = watched(alloc)?;
-    let mut notes = Notes::new(alloc);
-    push_rows(&gates, &mut notes)?;
+/// Notes and rows of these gates' flows come back in their order.
+fn rows_come_back(rt: &impl Abort, gates: &mut Gates, notes: &mut Notes) -> Result<(), NoMemory> {
+    watch(gates)?;
+    push_rows(gates, notes)?;
     let rows = [
         Wanted::Out(1),
         Wanted::Pauses(&[REQUEST, RESPONSE]),
@@ -88,35 +84,61 @@ fn rows_are_passages(rt: HostRuntime) -> Result<(), NoMemory> {
         Wanted::Out(3),
         Wanted::Resumes(&[REQUEST, RESPONSE]),
     ];
-    assert_passages(&rt, &notes, &rows);
-    same(&rt, &notes.len(), &8);
+    assert_passages(rt, notes, &rows);
+    same(rt, &notes.len(), &8);
     Ok(())
+}
+
+// Gates and notes are dropped by calls, as those of gates.rt.
+#[test]
+fn rows_are_passages(rt: HostRuntime) -> Result<(), NoMemory> {
+    let mut gates = Gates::new(rt.alloc());
+    let mut notes = Notes::new(rt.alloc());
+    let end = rows_come_back(&rt, &mut gates, &mut notes);
+    drop(gates);
+    drop(notes);
+    end
+}
+
+/// A row of no flow is pushed, of a buffer that nobody watches and of one that two do.
+fn push_empty(gates: &mut Gates, notes: &mut Notes) -> Result<(), NoMemory> {
+    watch(gates)?;
+    notes.push_pauses(gates.watchers(UNWATCHED), UNWATCHED)?;
+    notes.push_resumes(gates.watchers(WRITE), 0, WRITE)
 }
 
 #[test]
 fn an_empty_row_is_no_passage(rt: HostRuntime) -> Result<(), NoMemory> {
-    let alloc = rt.alloc();
-    let gates = watched(alloc)?;
-    let mut notes = Notes::new(alloc);
-    notes.push_pauses(gates.watchers(UNWATCHED), UNWATCHED)?;
-    notes.push_resumes(gates.watchers(WRITE), 0, WRITE)?;
+    let mut gates = Gates::new(rt.alloc());
+    let mut notes = Notes::new(rt.alloc());
+    let end = push_empty(&mut gates, &mut notes);
     assert_passages(&rt, &notes, &[]);
     holds(&rt, notes.is_empty());
+    drop(gates);
+    drop(notes);
+    end
+}
+
+/// What is pushed is cleared, and a row is pushed again.
+fn clear_and_push(rt: &impl Abort, gates: &mut Gates, notes: &mut Notes) -> Result<(), NoMemory> {
+    watch(gates)?;
+    notes.push(Note::Out { conn: 2, n: 1 })?;
+    notes.push_pauses(gates.watchers(WRITE), WRITE)?;
+    holds(rt, !notes.is_empty());
+    notes.clear();
+    assert_passages(rt, notes, &[]);
+    same(rt, &notes.len(), &0);
+    notes.push_pauses(gates.watchers(WRITE), WRITE)?;
+    assert_passages(rt, notes, &[Wanted::Pauses(&[REQUEST, RESPONSE])]);
     Ok(())
 }
 
 #[test]
 fn cleared_notes_are_none(rt: HostRuntime) -> Result<(), NoMemory> {
-    let alloc = rt.alloc();
-    let gates = watched(alloc)?;
-    let mut notes = Notes::new(alloc);
-    notes.push(Note::Out { conn: 2, n: 1 })?;
-    notes.push_pauses(gates.watchers(WRITE), WRITE)?;
-    holds(&rt, !notes.is_empty());
-    notes.clear();
-    assert_passages(&rt, &notes, &[]);
-    same(&rt, &notes.len(), &0);
-    notes.push_pauses(gates.watchers(WRITE), WRITE)?;
-    assert_passages(&rt, &notes, &[Wanted::Pauses(&[REQUEST, RESPONSE])]);
-    Ok(())
+    let mut gates = Gates::new(rt.alloc());
+    let mut notes = Notes::new(rt.alloc());
+    let end = clear_and_push(&rt, &mut gates, &mut notes);
+    drop(gates);
+    drop(notes);
+    end
 }

@@ -1,7 +1,10 @@
 // Lines that are read and written again, and lines that are no spelling.
+ghost use Rattle.flow_notes.specs.Event.{IsEvent};
+ghost use Rattle.flow_notes.specs.Note.{IsNote};
+
 use super::some_names;
-use crate::said::{holds, holds_in, same};
-use flow_notes::{Names, event_text, note_text, read_event, read_note, read_numbers};
+use crate::said::{holds_in, same};
+use flow_notes::{Event, Names, Note, event_text, note_text, read_event, read_note, read_numbers};
 use io_ports::{NoMemory, Octets};
 use std::alloc::AllocGlobal;
 use std::process::Abort;
@@ -150,12 +153,29 @@ fn note_is_read(
     names: &Names,
     line: &str,
 ) -> Result<(), NoMemory> {
-    let Some(note) = read_note(rt.alloc(), line.as_bytes(), names)? else {
-        holds_in(rt, &line, false);
-        return Ok(());
-    };
+    match read_note(rt.alloc(), line.as_bytes(), names)? {
+        Some(note) => {
+            let end = note_is_written(rt, names, &note, line);
+            drop(note);
+            end
+        }
+        None => {
+            holds_in(rt, &line, false);
+            Ok(())
+        }
+    }
+}
+
+fn note_is_written(
+    rt: &(impl AllocGlobal + Abort),
+    names: &Names,
+    note: &Note,
+    line: &str,
+) -> Result<(), NoMemory>
+    requires { IsNote names.now note.now }
+{
     let mut written = Octets::new(rt.alloc());
-    note_text(&note, names, &mut written)?;
+    note_text(note, names, &mut written)?;
     line_is_kept(rt, line, &written)
 }
 
@@ -205,13 +225,30 @@ fn event_is_read(
     line: &str,
     plain: bool,
 ) -> Result<(), NoMemory> {
-    let Some(event) = read_event(rt.alloc(), line.as_bytes(), names, plain)? else {
-        holds_in(rt, &line, false);
-        return Ok(());
-    };
-    holds_in(rt, &line, event.is_plain() == plain);
+    match read_event(rt.alloc(), line.as_bytes(), names, plain)? {
+        Some(event) => {
+            holds_in(rt, &line, event.is_plain() == plain);
+            let end = event_is_written(rt, names, &event, line);
+            drop(event);
+            end
+        }
+        None => {
+            holds_in(rt, &line, false);
+            Ok(())
+        }
+    }
+}
+
+fn event_is_written(
+    rt: &(impl AllocGlobal + Abort),
+    names: &Names,
+    event: &Event,
+    line: &str,
+) -> Result<(), NoMemory>
+    requires { IsEvent names.now event.now }
+{
     let mut written = Octets::new(rt.alloc());
-    event_text(&event, names, &mut written)?;
+    event_text(event, names, &mut written)?;
     line_is_kept(rt, line, &written)
 }
 
@@ -272,32 +309,39 @@ fn plain_events_are_read(rt: HostRuntime) -> Result<(), NoMemory> {
     events_of_lines(&rt, PLAIN, NO_PLAIN, true)
 }
 
+const NO_NUMBERS: [&str; 6] = [
+    "limit 1",
+    "limits ",
+    "limits1",
+    "limits 1 ",
+    "limits  1",
+    "limits 4294967296",
+];
+
+fn same_numbers(
+    rt: &(impl AllocGlobal + Abort),
+    line: &str,
+    wanted: &[u32],
+) -> Result<(), NoMemory> {
+    match read_numbers(rt.alloc(), b"limits", line.as_bytes())? {
+        Some(numbers) => same(rt, &numbers.as_slice(), &wanted),
+        None => holds_in(rt, &line, false),
+    }
+    Ok(())
+}
+
+fn no_numbers(rt: &(impl AllocGlobal + Abort), line: &str) -> Result<(), NoMemory> {
+    let read = read_numbers(rt.alloc(), b"limits", line.as_bytes())?;
+    holds_in(rt, &line, read.is_none());
+    Ok(())
+}
+
 #[test]
 fn numbers_are_read(rt: HostRuntime) -> Result<(), NoMemory> {
-    let alloc = rt.alloc();
-    let Some(numbers) = read_numbers(alloc, b"limits", b"limits 65535 0 4294967295")? else {
-        holds(&rt, false);
-        return Ok(());
-    };
-    same(&rt, &numbers.as_slice(), &[65535, 0, 4294967295].as_slice());
-    let Some(numbers) = read_numbers(alloc, b"limits", b"limits")? else {
-        holds(&rt, false);
-        return Ok(());
-    };
-    holds(&rt, numbers.is_empty());
-    for line in [
-        "limit 1",
-        "limits ",
-        "limits1",
-        "limits 1 ",
-        "limits  1",
-        "limits 4294967296",
-    ] {
-        holds_in(
-            &rt,
-            &line,
-            read_numbers(alloc, b"limits", line.as_bytes())?.is_none(),
-        );
+    same_numbers(&rt, "limits 65535 0 4294967295", &[65535, 0, 4294967295])?;
+    same_numbers(&rt, "limits", &[])?;
+    for line in NO_NUMBERS {
+        no_numbers(&rt, line)?;
     }
     Ok(())
 }

@@ -1,10 +1,12 @@
 // What a follower answers on the publisher's own thread.
+ghost use Rattle.std.specs.Prelude.{◌≡◌};
+
 use super::{one_follower, shared};
 use crate::said::{holds, same, same_in};
 use io_ports::NoMemory;
 use overload_core::action_states;
-use proxy_config::read_config;
-use shared_state::{Follower, Publisher, Snapshot};
+use proxy_config::{Config, read_config};
+use shared_state::{Follower, Publisher, Snapshot, Told};
 use std::alloc::AllocGlobal;
 use std::process::Abort;
 use std::sync::Wait;
@@ -61,9 +63,14 @@ fn actions_follow<R: AllocGlobal + Abort>(
     snapshot: &Snapshot,
 ) -> Result<(), Fail> {
     let config = read_config(rt.alloc(), CONFIG.as_bytes())?;
-    assert!(rt; config.overload.resources.len() == 1);
-    same(rt, &action_states(&config, &[pressure]), &snapshot.actions);
+    actions_follow_under(rt, &config, pressure, snapshot);
+    drop(config);
     Ok(())
+}
+
+fn actions_follow_under(rt: &impl Abort, config: &Config, pressure: u32, snapshot: &Snapshot) {
+    assert!(rt; config.overload.resources.len() == 1);
+    same(rt, &action_states(config, &[pressure]), &snapshot.actions);
 }
 
 #[test]
@@ -88,15 +95,26 @@ fn a_follower_answers_what_was_published(rt: HostRuntime) -> Result<(), Fail> {
 #[test]
 fn the_opening_version_has_no_pressure(rt: HostRuntime) -> Result<(), Fail> {
     let (mut publisher, mut followers) = shared(&rt, CONFIG, 1, 2)?;
-    let mut first = one_follower(&rt, &publisher, &mut followers);
+    let first = one_follower(&rt, &publisher, &mut followers);
     let told = publisher.tell();
     publisher.end(&rt);
     same(&rt, &told.version(), &0);
     holds(&rt, followers.take_one().is_some());
     holds(&rt, followers.take_one().is_none());
-    first.learn(told);
-    let snapshot = first.current(&rt, rt.alloc())?;
-    same(&rt, &snapshot.version, &0);
-    same(&rt, &snapshot.pressures.as_slice(), &[0].as_slice());
+    drop(followers);
+    Ok(opens(&rt, first, told)?)
+}
+
+fn opens<R: AllocGlobal + Wait + Abort>(
+    rt: &R,
+    mut follower: Follower,
+    told: Told,
+) -> Result<(), NoMemory>
+    requires { told.seat.table_id ≡ follower.seat.table_id }
+{
+    follower.learn(told);
+    let snapshot = follower.current(rt, rt.alloc())?;
+    same(rt, &snapshot.version, &0);
+    same(rt, &snapshot.pressures.as_slice(), &[0].as_slice());
     Ok(())
 }

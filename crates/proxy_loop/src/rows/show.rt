@@ -64,10 +64,14 @@ fn show_served<R: Print + AllocGlobal + Copy + Drop>(
     served: ProxyServed,
     out: &[u8],
 ) -> io::Result<()> {
-    println!(rt; "status {}", served.status.code())?;
-    print!(rt; "{}", text(out))?;
+    let shown = show_status(&rt, served.status.code(), text(out));
     tell_served(&Aloud::new(rt), served, case.config.as_slice(), None, None);
-    Ok(())
+    shown
+}
+
+fn show_status<R: Print>(rt: &R, code: u8, out: &str) -> io::Result<()> {
+    println!(rt; "status {code}")?;
+    print!(rt; "{out}")
 }
 
 fn show_site<R: Print>(rt: &R, site: &MemWireSite) -> io::Result<()> {
@@ -82,25 +86,23 @@ fn show_relays<R: Print>(rt: &R, relays: &MemSite) -> io::Result<()> {
         println!(rt; "it was to listen at {}", text(at.as_slice()))?;
     }
     for (taps, journal) in relays.back() {
-        println!(rt;
-            "came back, with {} and {} faults",
-            taps.faults(),
-            journal.faults()
-        )?;
-        print!(rt; "{}", text(journal.octets()))?;
+        print!(rt; "came ")?;
+        show_back(rt, taps.faults(), journal.faults(), text(journal.octets()))?;
     }
     Ok(())
+}
+
+// With how many faults the connections and the journal came back, and what the journal has.
+fn show_back<R: Print>(rt: &R, faults: u64, journal_faults: u64, journal: &str) -> io::Result<()> {
+    println!(rt; "back, with {faults} and {journal_faults} faults")?;
+    print!(rt; "{journal}")
 }
 
 // What came back of workers.
 fn show_workers<R: Print>(rt: &R, site: &MemWireSite) -> io::Result<()> {
     for (worker, (wires, journal)) in site.returned() {
-        println!(rt;
-            "worker {worker} came back, with {} and {} faults",
-            wires.faults(),
-            journal.faults()
-        )?;
-        print!(rt; "{}", text(journal.octets()))?;
+        print!(rt; "worker {worker} came ")?;
+        show_back(rt, wires.faults(), journal.faults(), text(journal.octets()))?;
         show_closed(rt, wires)?;
     }
     if site.was_shut() {

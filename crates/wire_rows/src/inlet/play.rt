@@ -80,15 +80,23 @@ fn begun(alloc: Global, words: &str) -> Played {
 pub fn play(alloc: Global, line: &str, cut: Cut) -> (Answers, usize) {
     let (words, calls) = line.split_once(" ; ").unwrap_or((line, ""));
     let mut played = begun(alloc, words);
-    let mut answers = Answers::new(alloc);
-    for call in calls.split(" ; ") {
-        answers.begin();
-        played.call(&mut answers, call, cut);
-    }
-    (answers, played.came)
+    let answers = played.calls(alloc, calls, cut);
+    let came = played.came;
+    drop(played);
+    (answers, came)
 }
 
 impl Played {
+    // What the calls answer, one after another.
+    fn calls(&mut self, alloc: Global, calls: &str, cut: Cut) -> Answers {
+        let mut answers = Answers::new(alloc);
+        for call in calls.split(" ; ") {
+            answers.begin();
+            self.call(&mut answers, call, cut);
+        }
+        answers
+    }
+
     fn call(&mut self, answers: &mut Answers, call: &str, cut: Cut) {
         let (name, word) = call.split_once(' ').unwrap_or((call, ""));
         let stream = small_number(word);

@@ -1,10 +1,9 @@
 -- A turn, one call after the other.
 use Rattle.flow_notes.specs.declared.events.Event.TheVariants as event
 use Rattle.post_queue.specs.Pass as hands
-use Rattle.post_queue.specs.declared.passes.RunnerPass.{RunnerPass}
 use Rattle.shared_state.specs.Following.{looks}
 use Rattle.shared_state.specs.PermitSeats.{view}
-use Rattle.std.proofs.Common.{ap, arith, refl, subst, sym, ◌∙◌}
+use Rattle.std.proofs.Common.{arith, refl, ◌∙◌}
 use Rattle.std.proofs.lemmas.Result.{err_from_is_err_and}
 use Rattle.std.specs.Prelude.{Bool}
 use Rattle.worker_loop.proofs.Keeping.{keeps_more, keeps_same, rises_err, rises_memory, rises_more, rises_ok}
@@ -39,16 +38,16 @@ returns-in_err-carry_out-clause-rises g c =
     let p = err_from_is_err_and c.from_residual.result c.from_residual.ensures.1 in
     rw (p.1, p.2) (rises_err {T = Unit {0}} {U = Bool} _ (g.W.Wires.faults c.args.wires.now) (g.W.Wires.faults c.carry_out.new.wires) (g.J.Sink.faults c.args.journal.now) (g.J.Sink.faults c.carry_out.new.journal) c.in_err-carry_out.ensures.rises)
 
-pub drain-requires : goal.drain-requires
-drain-requires g c = c.requires.pass
+pub drain_if_any-requires : goal.drain_if_any-requires
+drain_if_any-requires g c = c.requires.pass
 
 pub returns-in-Err-clause-turns : goal.returns-in-Err-clause-turns
 returns-in-Err-clause-turns g c =
-    broke_drain c.args.names.now ended.Memory (sides_of (g.C.Clock.moments c.args.clock.now) (hands.view c.args.pass.now.pass) (looks c.args.follower.now) c.args.follower.now.kept) (sides_of (g.C.Clock.moments c.now.new.self) (hands.view c.drain.new.pass.pass) (looks c.args.follower.now) c.args.follower.now.kept) c.now.result c.args.core.now.kind c.carry_out.new.core.kind c.carry_out.new.core.kind (place_of (g.J.Sink.contents c.args.journal.now) (g.J.Journal.told c.args.journal.now) (g.W.Wires.seen c.args.wires.now) c.args.held.now (view c.args.seat.now)) (place_of (g.J.Sink.contents c.carry_out.new.journal) (g.J.Journal.told c.carry_out.new.journal) (g.W.Wires.seen c.carry_out.new.wires) c.carry_out.new.held (view c.carry_out.new.seat)) (place_of (g.J.Sink.contents c.carry_out.new.journal) (g.J.Journal.told c.carry_out.new.journal) (g.W.Wires.seen c.carry_out.new.wires) c.carry_out.new.held (view c.carry_out.new.seat)) c.now.ensures.tells (ap (λ (p : RunnerPass). hands.view p.pass) c.in-Err.ensures.err) c.in_ok-carry_out.ensures.carries
+    broke_drain c.args.names.now ended.Memory (sides_of (g.C.Clock.moments c.args.clock.now) (hands.view c.args.pass.now.pass) (looks c.args.follower.now) c.args.follower.now.kept) (sides_of (g.C.Clock.moments c.now.new.self) (hands.view c.drain_if_any.new.pass.pass) (looks c.args.follower.now) c.args.follower.now.kept) c.now.result c.args.core.now.kind c.carry_out.new.core.kind c.carry_out.new.core.kind (place_of (g.J.Sink.contents c.args.journal.now) (g.J.Journal.told c.args.journal.now) (g.W.Wires.seen c.args.wires.now) c.args.held.now (view c.args.seat.now)) (place_of (g.J.Sink.contents c.carry_out.new.journal) (g.J.Journal.told c.carry_out.new.journal) (g.W.Wires.seen c.carry_out.new.wires) c.carry_out.new.held (view c.carry_out.new.seat)) (place_of (g.J.Sink.contents c.carry_out.new.journal) (g.J.Journal.told c.carry_out.new.journal) (g.W.Wires.seen c.carry_out.new.wires) c.carry_out.new.held (view c.carry_out.new.seat)) c.now.ensures.tells c.in-Err.ensures.err c.in_ok-carry_out.ensures.carries
     (cuts_memory c.args.names.now c.carry_out.new.core.kind c.carry_out.new.core.kind (place_of (g.J.Sink.contents c.carry_out.new.journal) (g.J.Journal.told c.carry_out.new.journal) (g.W.Wires.seen c.carry_out.new.wires) c.carry_out.new.held (view c.carry_out.new.seat)))
 
 pub returns-in-Err-clause-pass : goal.returns-in-Err-clause-pass
-returns-in-Err-clause-pass g c = c.drain.ensures.pass
+returns-in-Err-clause-pass g c = c.drain_if_any.ensures.pass
 
 pub returns-in-Err-clause-keeps : goal.returns-in-Err-clause-keeps
 returns-in-Err-clause-keeps g c = c.carry_out.ensures.keeps
@@ -68,10 +67,10 @@ run_posts-requires-clause-posts g c = allowed_as c.as_slice-drained.result.now _
 pub returns-in_err-run_posts-clause-turns : goal.returns-in_err-run_posts-clause-turns
 returns-in_err-run_posts-clause-turns g c =
     let p = err_from_is_err_and c.from_residual-in_err-run_posts.result c.from_residual-in_err-run_posts.ensures.1 in
-    rw (p.1, p.2) (broke_posts c.args.names.now _ (sides_of (g.C.Clock.moments c.args.clock.now) (hands.view c.args.pass.now.pass) (looks c.args.follower.now) c.args.follower.now.kept) (sides_of (g.C.Clock.moments c.now.new.self) (hands.view c.drain.new.pass.pass) (looks c.args.follower.now) c.args.follower.now.kept) c.now.result c.as_slice-drained.result.now c.args.core.now.kind c.carry_out.new.core.kind c.run_posts.new.core.kind (place_of (g.J.Sink.contents c.args.journal.now) (g.J.Journal.told c.args.journal.now) (g.W.Wires.seen c.args.wires.now) c.args.held.now (view c.args.seat.now)) (place_of (g.J.Sink.contents c.carry_out.new.journal) (g.J.Journal.told c.carry_out.new.journal) (g.W.Wires.seen c.carry_out.new.wires) c.carry_out.new.held (view c.carry_out.new.seat)) (place_of (g.J.Sink.contents c.run_posts.new.journal) (g.J.Journal.told c.run_posts.new.journal) (g.W.Wires.seen c.run_posts.new.wires) c.run_posts.new.held (view c.run_posts.new.seat)) c.now.ensures.tells (drained_as c.as_slice-drained.result.now _ _ _ c.as_slice-drained.ensures c.in-Ok.ensures.ran) c.in_ok-carry_out.ensures.carries c.in_err-run_posts.ensures.runs)
+    rw (p.1, p.2) (broke_posts c.args.names.now _ (sides_of (g.C.Clock.moments c.args.clock.now) (hands.view c.args.pass.now.pass) (looks c.args.follower.now) c.args.follower.now.kept) (sides_of (g.C.Clock.moments c.now.new.self) (hands.view c.drain_if_any.new.pass.pass) (looks c.args.follower.now) c.args.follower.now.kept) c.now.result c.as_slice-drained.result.now c.args.core.now.kind c.carry_out.new.core.kind c.run_posts.new.core.kind (place_of (g.J.Sink.contents c.args.journal.now) (g.J.Journal.told c.args.journal.now) (g.W.Wires.seen c.args.wires.now) c.args.held.now (view c.args.seat.now)) (place_of (g.J.Sink.contents c.carry_out.new.journal) (g.J.Journal.told c.carry_out.new.journal) (g.W.Wires.seen c.carry_out.new.wires) c.carry_out.new.held (view c.carry_out.new.seat)) (place_of (g.J.Sink.contents c.run_posts.new.journal) (g.J.Journal.told c.run_posts.new.journal) (g.W.Wires.seen c.run_posts.new.wires) c.run_posts.new.held (view c.run_posts.new.seat)) c.now.ensures.tells (drained_as c.as_slice-drained.result.now _ _ _ c.as_slice-drained.ensures c.in-Ok.ensures.ran) c.in_ok-carry_out.ensures.carries c.in_err-run_posts.ensures.runs)
 
 pub returns-in_err-run_posts-clause-pass : goal.returns-in_err-run_posts-clause-pass
-returns-in_err-run_posts-clause-pass g c = c.drain.ensures.pass
+returns-in_err-run_posts-clause-pass g c = c.drain_if_any.ensures.pass
 
 pub returns-in_err-run_posts-clause-keeps : goal.returns-in_err-run_posts-clause-keeps
 returns-in_err-run_posts-clause-keeps g c = keeps_more c.args.permits.now (g.W.Wires.seen c.args.wires.now) (g.W.Wires.seen c.carry_out.new.wires) (g.W.Wires.seen c.run_posts.new.wires) c.args.held.now c.carry_out.new.held c.run_posts.new.held (view c.args.seat.now) c.carry_out.new.seat c.run_posts.new.seat c.carry_out.ensures.keeps c.run_posts.ensures.keeps
@@ -86,11 +85,11 @@ same-list g c = refl
 
 pub returns-in-Err-current-clause-turns : goal.returns-in-Err-current-clause-turns
 returns-in-Err-current-clause-turns g c =
-    broke_obey c.args.names.now ended.Memory (sides_of (g.C.Clock.moments c.args.clock.now) (hands.view c.args.pass.now.pass) (looks c.args.follower.now) c.args.follower.now.kept) (sides_of (g.C.Clock.moments c.now.new.self) (hands.view c.drain.new.pass.pass) (looks c.current.new.self) c.current.new.self.kept) c.now.result c.as_slice-drained.result.now c.args.core.now.kind c.carry_out.new.core.kind c.run_posts.new.core.kind c.run_posts.new.core.kind (place_of (g.J.Sink.contents c.args.journal.now) (g.J.Journal.told c.args.journal.now) (g.W.Wires.seen c.args.wires.now) c.args.held.now (view c.args.seat.now)) (place_of (g.J.Sink.contents c.carry_out.new.journal) (g.J.Journal.told c.carry_out.new.journal) (g.W.Wires.seen c.carry_out.new.wires) c.carry_out.new.held (view c.carry_out.new.seat)) (place_of (g.J.Sink.contents c.run_posts.new.journal) (g.J.Journal.told c.run_posts.new.journal) (g.W.Wires.seen c.run_posts.new.wires) c.run_posts.new.held (view c.run_posts.new.seat)) (place_of (g.J.Sink.contents c.run_posts.new.journal) (g.J.Journal.told c.run_posts.new.journal) (g.W.Wires.seen c.run_posts.new.wires) c.run_posts.new.held (view c.run_posts.new.seat)) c.now.ensures.tells (drained_as c.as_slice-drained.result.now _ _ _ c.as_slice-drained.ensures c.in-Ok.ensures.ran) c.in_ok-carry_out.ensures.carries c.in_ok-run_posts.ensures.runs
+    broke_obey c.args.names.now ended.Memory (sides_of (g.C.Clock.moments c.args.clock.now) (hands.view c.args.pass.now.pass) (looks c.args.follower.now) c.args.follower.now.kept) (sides_of (g.C.Clock.moments c.now.new.self) (hands.view c.drain_if_any.new.pass.pass) (looks c.current.new.self) c.current.new.self.kept) c.now.result c.as_slice-drained.result.now c.args.core.now.kind c.carry_out.new.core.kind c.run_posts.new.core.kind c.run_posts.new.core.kind (place_of (g.J.Sink.contents c.args.journal.now) (g.J.Journal.told c.args.journal.now) (g.W.Wires.seen c.args.wires.now) c.args.held.now (view c.args.seat.now)) (place_of (g.J.Sink.contents c.carry_out.new.journal) (g.J.Journal.told c.carry_out.new.journal) (g.W.Wires.seen c.carry_out.new.wires) c.carry_out.new.held (view c.carry_out.new.seat)) (place_of (g.J.Sink.contents c.run_posts.new.journal) (g.J.Journal.told c.run_posts.new.journal) (g.W.Wires.seen c.run_posts.new.wires) c.run_posts.new.held (view c.run_posts.new.seat)) (place_of (g.J.Sink.contents c.run_posts.new.journal) (g.J.Journal.told c.run_posts.new.journal) (g.W.Wires.seen c.run_posts.new.wires) c.run_posts.new.held (view c.run_posts.new.seat)) c.now.ensures.tells (drained_as c.as_slice-drained.result.now _ _ _ c.as_slice-drained.ensures c.in-Ok.ensures.ran) c.in_ok-carry_out.ensures.carries c.in_ok-run_posts.ensures.runs
     (cuts_memory c.args.names.now c.run_posts.new.core.kind c.run_posts.new.core.kind (place_of (g.J.Sink.contents c.run_posts.new.journal) (g.J.Journal.told c.run_posts.new.journal) (g.W.Wires.seen c.run_posts.new.wires) c.run_posts.new.held (view c.run_posts.new.seat)))
 
 pub returns-in-Err-current-clause-pass : goal.returns-in-Err-current-clause-pass
-returns-in-Err-current-clause-pass g c = c.drain.ensures.pass
+returns-in-Err-current-clause-pass g c = c.drain_if_any.ensures.pass
 
 pub returns-in-Err-current-clause-keeps : goal.returns-in-Err-current-clause-keeps
 returns-in-Err-current-clause-keeps g c = keeps_more c.args.permits.now (g.W.Wires.seen c.args.wires.now) (g.W.Wires.seen c.carry_out.new.wires) (g.W.Wires.seen c.run_posts.new.wires) c.args.held.now c.carry_out.new.held c.run_posts.new.held (view c.args.seat.now) c.carry_out.new.seat c.run_posts.new.seat c.carry_out.ensures.keeps c.run_posts.ensures.keeps
@@ -110,10 +109,10 @@ obey-requires-clause-version g c = c.in-Ok-current.ensures.number
 pub returns-in_err-obey-clause-turns : goal.returns-in_err-obey-clause-turns
 returns-in_err-obey-clause-turns g c =
     let p = err_from_is_err_and c.from_residual-in_err-obey.result c.from_residual-in_err-obey.ensures.1 in
-    rw (p.1, p.2) (broke_obey c.args.names.now _ (sides_of (g.C.Clock.moments c.args.clock.now) (hands.view c.args.pass.now.pass) (looks c.args.follower.now) c.args.follower.now.kept) (sides_of (g.C.Clock.moments c.now.new.self) (hands.view c.drain.new.pass.pass) (looks c.current.new.self) c.current.new.self.kept) c.now.result c.as_slice-drained.result.now c.args.core.now.kind c.carry_out.new.core.kind c.run_posts.new.core.kind c.obey.new.core.kind (place_of (g.J.Sink.contents c.args.journal.now) (g.J.Journal.told c.args.journal.now) (g.W.Wires.seen c.args.wires.now) c.args.held.now (view c.args.seat.now)) (place_of (g.J.Sink.contents c.carry_out.new.journal) (g.J.Journal.told c.carry_out.new.journal) (g.W.Wires.seen c.carry_out.new.wires) c.carry_out.new.held (view c.carry_out.new.seat)) (place_of (g.J.Sink.contents c.run_posts.new.journal) (g.J.Journal.told c.run_posts.new.journal) (g.W.Wires.seen c.run_posts.new.wires) c.run_posts.new.held (view c.run_posts.new.seat)) (place_of (g.J.Sink.contents c.obey.new.journal) (g.J.Journal.told c.obey.new.journal) (g.W.Wires.seen c.obey.new.wires) c.obey.new.held (view c.obey.new.seat)) c.now.ensures.tells (drained_as c.as_slice-drained.result.now _ _ _ c.as_slice-drained.ensures c.in-Ok.ensures.ran) c.in_ok-carry_out.ensures.carries c.in_ok-run_posts.ensures.runs (cuts_one c.args.names.now _ c.run_posts.new.core.kind c.obey.new.core.kind (place_of (g.J.Sink.contents c.run_posts.new.journal) (g.J.Journal.told c.run_posts.new.journal) (g.W.Wires.seen c.run_posts.new.wires) c.run_posts.new.held (view c.run_posts.new.seat)) (place_of (g.J.Sink.contents c.obey.new.journal) (g.J.Journal.told c.obey.new.journal) (g.W.Wires.seen c.obey.new.wires) c.obey.new.held (view c.obey.new.seat)) c.in_err-obey.ensures.carries))
+    rw (p.1, p.2) (broke_obey c.args.names.now _ (sides_of (g.C.Clock.moments c.args.clock.now) (hands.view c.args.pass.now.pass) (looks c.args.follower.now) c.args.follower.now.kept) (sides_of (g.C.Clock.moments c.now.new.self) (hands.view c.drain_if_any.new.pass.pass) (looks c.current.new.self) c.current.new.self.kept) c.now.result c.as_slice-drained.result.now c.args.core.now.kind c.carry_out.new.core.kind c.run_posts.new.core.kind c.obey.new.core.kind (place_of (g.J.Sink.contents c.args.journal.now) (g.J.Journal.told c.args.journal.now) (g.W.Wires.seen c.args.wires.now) c.args.held.now (view c.args.seat.now)) (place_of (g.J.Sink.contents c.carry_out.new.journal) (g.J.Journal.told c.carry_out.new.journal) (g.W.Wires.seen c.carry_out.new.wires) c.carry_out.new.held (view c.carry_out.new.seat)) (place_of (g.J.Sink.contents c.run_posts.new.journal) (g.J.Journal.told c.run_posts.new.journal) (g.W.Wires.seen c.run_posts.new.wires) c.run_posts.new.held (view c.run_posts.new.seat)) (place_of (g.J.Sink.contents c.obey.new.journal) (g.J.Journal.told c.obey.new.journal) (g.W.Wires.seen c.obey.new.wires) c.obey.new.held (view c.obey.new.seat)) c.now.ensures.tells (drained_as c.as_slice-drained.result.now _ _ _ c.as_slice-drained.ensures c.in-Ok.ensures.ran) c.in_ok-carry_out.ensures.carries c.in_ok-run_posts.ensures.runs (cuts_one c.args.names.now _ c.run_posts.new.core.kind c.obey.new.core.kind (place_of (g.J.Sink.contents c.run_posts.new.journal) (g.J.Journal.told c.run_posts.new.journal) (g.W.Wires.seen c.run_posts.new.wires) c.run_posts.new.held (view c.run_posts.new.seat)) (place_of (g.J.Sink.contents c.obey.new.journal) (g.J.Journal.told c.obey.new.journal) (g.W.Wires.seen c.obey.new.wires) c.obey.new.held (view c.obey.new.seat)) c.in_err-obey.ensures.carries))
 
 pub returns-in_err-obey-clause-pass : goal.returns-in_err-obey-clause-pass
-returns-in_err-obey-clause-pass g c = c.drain.ensures.pass
+returns-in_err-obey-clause-pass g c = c.drain_if_any.ensures.pass
 
 pub returns-in_err-obey-clause-keeps : goal.returns-in_err-obey-clause-keeps
 returns-in_err-obey-clause-keeps g c = keeps_more c.args.permits.now (g.W.Wires.seen c.args.wires.now) (g.W.Wires.seen c.run_posts.new.wires) (g.W.Wires.seen c.obey.new.wires) c.args.held.now c.run_posts.new.held c.obey.new.held (view c.args.seat.now) c.run_posts.new.seat c.obey.new.seat (keeps_more c.args.permits.now (g.W.Wires.seen c.args.wires.now) (g.W.Wires.seen c.carry_out.new.wires) (g.W.Wires.seen c.run_posts.new.wires) c.args.held.now c.carry_out.new.held c.run_posts.new.held (view c.args.seat.now) c.carry_out.new.seat c.run_posts.new.seat c.carry_out.ensures.keeps c.run_posts.ensures.keeps) c.obey.ensures.keeps
@@ -138,10 +137,10 @@ take_next-requires-clause-below g c = (keeps_more c.args.permits.now (g.W.Wires.
 pub returns-in_err-stops-clause-turns : goal.returns-in_err-stops-clause-turns
 returns-in_err-stops-clause-turns g c =
     let p = err_from_is_err_and c.from_residual-in_err-stops.result c.from_residual-in_err-stops.ensures.1 in
-    rw (p.1, p.2) (broke_taking c.args.names.now _ (sides_of (g.C.Clock.moments c.args.clock.now) (hands.view c.args.pass.now.pass) (looks c.args.follower.now) c.args.follower.now.kept) (sides_of (g.C.Clock.moments c.now.new.self) (hands.view c.drain.new.pass.pass) (looks c.current.new.self) c.current.new.self.kept) c.now.result c.as_slice-drained.result.now c.args.core.now.kind c.carry_out.new.core.kind c.run_posts.new.core.kind c.take_next.new.core.kind (place_of (g.J.Sink.contents c.args.journal.now) (g.J.Journal.told c.args.journal.now) (g.W.Wires.seen c.args.wires.now) c.args.held.now (view c.args.seat.now)) (place_of (g.J.Sink.contents c.carry_out.new.journal) (g.J.Journal.told c.carry_out.new.journal) (g.W.Wires.seen c.carry_out.new.wires) c.carry_out.new.held (view c.carry_out.new.seat)) (place_of (g.J.Sink.contents c.run_posts.new.journal) (g.J.Journal.told c.run_posts.new.journal) (g.W.Wires.seen c.run_posts.new.wires) c.run_posts.new.held (view c.run_posts.new.seat)) (place_of (g.J.Sink.contents c.take_next.new.journal) (g.J.Journal.told c.take_next.new.journal) (g.W.Wires.seen c.take_next.new.wires) c.take_next.new.held (view c.take_next.new.seat)) c.now.ensures.tells (drained_as c.as_slice-drained.result.now _ _ _ c.as_slice-drained.ensures c.in-Ok.ensures.ran) c.in_ok-carry_out.ensures.carries c.in_ok-run_posts.ensures.runs c.in-Ok-current.snapshot.version c.in-Ok-current.snapshot.pressures c.obey.new.core.kind (place_of (g.J.Sink.contents c.obey.new.journal) (g.J.Journal.told c.obey.new.journal) (g.W.Wires.seen c.obey.new.wires) c.obey.new.held (view c.obey.new.seat)) c.in_ok-obey.ensures.carries c.in_err-stops.ensures.takes)
+    rw (p.1, p.2) (broke_taking c.args.names.now _ (sides_of (g.C.Clock.moments c.args.clock.now) (hands.view c.args.pass.now.pass) (looks c.args.follower.now) c.args.follower.now.kept) (sides_of (g.C.Clock.moments c.now.new.self) (hands.view c.drain_if_any.new.pass.pass) (looks c.current.new.self) c.current.new.self.kept) c.now.result c.as_slice-drained.result.now c.args.core.now.kind c.carry_out.new.core.kind c.run_posts.new.core.kind c.take_next.new.core.kind (place_of (g.J.Sink.contents c.args.journal.now) (g.J.Journal.told c.args.journal.now) (g.W.Wires.seen c.args.wires.now) c.args.held.now (view c.args.seat.now)) (place_of (g.J.Sink.contents c.carry_out.new.journal) (g.J.Journal.told c.carry_out.new.journal) (g.W.Wires.seen c.carry_out.new.wires) c.carry_out.new.held (view c.carry_out.new.seat)) (place_of (g.J.Sink.contents c.run_posts.new.journal) (g.J.Journal.told c.run_posts.new.journal) (g.W.Wires.seen c.run_posts.new.wires) c.run_posts.new.held (view c.run_posts.new.seat)) (place_of (g.J.Sink.contents c.take_next.new.journal) (g.J.Journal.told c.take_next.new.journal) (g.W.Wires.seen c.take_next.new.wires) c.take_next.new.held (view c.take_next.new.seat)) c.now.ensures.tells (drained_as c.as_slice-drained.result.now _ _ _ c.as_slice-drained.ensures c.in-Ok.ensures.ran) c.in_ok-carry_out.ensures.carries c.in_ok-run_posts.ensures.runs c.in-Ok-current.snapshot.version c.in-Ok-current.snapshot.pressures c.obey.new.core.kind (place_of (g.J.Sink.contents c.obey.new.journal) (g.J.Journal.told c.obey.new.journal) (g.W.Wires.seen c.obey.new.wires) c.obey.new.held (view c.obey.new.seat)) c.in_ok-obey.ensures.carries c.in_err-stops.ensures.takes)
 
 pub returns-in_err-stops-clause-pass : goal.returns-in_err-stops-clause-pass
-returns-in_err-stops-clause-pass g c = c.drain.ensures.pass
+returns-in_err-stops-clause-pass g c = c.drain_if_any.ensures.pass
 
 pub returns-in_err-stops-clause-keeps : goal.returns-in_err-stops-clause-keeps
 returns-in_err-stops-clause-keeps g c = keeps_more c.args.permits.now (g.W.Wires.seen c.args.wires.now) (g.W.Wires.seen c.obey.new.wires) (g.W.Wires.seen c.take_next.new.wires) c.args.held.now c.obey.new.held c.take_next.new.held (view c.args.seat.now) c.obey.new.seat c.take_next.new.seat (keeps_more c.args.permits.now (g.W.Wires.seen c.args.wires.now) (g.W.Wires.seen c.run_posts.new.wires) (g.W.Wires.seen c.obey.new.wires) c.args.held.now c.run_posts.new.held c.obey.new.held (view c.args.seat.now) c.run_posts.new.seat c.obey.new.seat (keeps_more c.args.permits.now (g.W.Wires.seen c.args.wires.now) (g.W.Wires.seen c.carry_out.new.wires) (g.W.Wires.seen c.run_posts.new.wires) c.args.held.now c.carry_out.new.held c.run_posts.new.held (view c.args.seat.now) c.carry_out.new.seat c.run_posts.new.seat c.carry_out.ensures.keeps c.run_posts.ensures.keeps) c.obey.ensures.keeps) c.take_next.ensures.keeps
@@ -160,10 +159,10 @@ offer_all-requires-clause-holds g c = (keeps_more c.args.permits.now (g.W.Wires.
 pub returns-in_err-offer_all-clause-turns : goal.returns-in_err-offer_all-clause-turns
 returns-in_err-offer_all-clause-turns g c =
     let p = err_from_is_err_and c.from_residual-in_err-offer_all.result c.from_residual-in_err-offer_all.ensures.1 in
-    rw (p.1, p.2) (broke_offering c.args.names.now _ (sides_of (g.C.Clock.moments c.args.clock.now) (hands.view c.args.pass.now.pass) (looks c.args.follower.now) c.args.follower.now.kept) (sides_of (g.C.Clock.moments c.now.new.self) (hands.view c.drain.new.pass.pass) (looks c.current.new.self) c.current.new.self.kept) c.now.result c.as_slice-drained.result.now c.args.core.now.kind c.carry_out.new.core.kind c.run_posts.new.core.kind c.offer_all.new.core.kind (place_of (g.J.Sink.contents c.args.journal.now) (g.J.Journal.told c.args.journal.now) (g.W.Wires.seen c.args.wires.now) c.args.held.now (view c.args.seat.now)) (place_of (g.J.Sink.contents c.carry_out.new.journal) (g.J.Journal.told c.carry_out.new.journal) (g.W.Wires.seen c.carry_out.new.wires) c.carry_out.new.held (view c.carry_out.new.seat)) (place_of (g.J.Sink.contents c.run_posts.new.journal) (g.J.Journal.told c.run_posts.new.journal) (g.W.Wires.seen c.run_posts.new.wires) c.run_posts.new.held (view c.run_posts.new.seat)) (place_of (g.J.Sink.contents c.offer_all.new.journal) (g.J.Journal.told c.offer_all.new.journal) (g.W.Wires.seen c.offer_all.new.wires) c.offer_all.new.held (view c.offer_all.new.seat)) c.now.ensures.tells (drained_as c.as_slice-drained.result.now _ _ _ c.as_slice-drained.ensures c.in-Ok.ensures.ran) c.in_ok-carry_out.ensures.carries c.in_ok-run_posts.ensures.runs c.in-Ok-current.snapshot.version c.in-Ok-current.snapshot.pressures c.obey.new.core.kind (place_of (g.J.Sink.contents c.obey.new.journal) (g.J.Journal.told c.obey.new.journal) (g.W.Wires.seen c.obey.new.wires) c.obey.new.held (view c.obey.new.seat)) c.in_ok-obey.ensures.carries c.take_next.new.core.kind (place_of (g.J.Sink.contents c.take_next.new.journal) (g.J.Journal.told c.take_next.new.journal) (g.W.Wires.seen c.take_next.new.wires) c.take_next.new.held (view c.take_next.new.seat)) c.in_ok-stops.stops c.in_ok-stops.ensures.takes c.in_err-offer_all.ensures.offers)
+    rw (p.1, p.2) (broke_offering c.args.names.now _ (sides_of (g.C.Clock.moments c.args.clock.now) (hands.view c.args.pass.now.pass) (looks c.args.follower.now) c.args.follower.now.kept) (sides_of (g.C.Clock.moments c.now.new.self) (hands.view c.drain_if_any.new.pass.pass) (looks c.current.new.self) c.current.new.self.kept) c.now.result c.as_slice-drained.result.now c.args.core.now.kind c.carry_out.new.core.kind c.run_posts.new.core.kind c.offer_all.new.core.kind (place_of (g.J.Sink.contents c.args.journal.now) (g.J.Journal.told c.args.journal.now) (g.W.Wires.seen c.args.wires.now) c.args.held.now (view c.args.seat.now)) (place_of (g.J.Sink.contents c.carry_out.new.journal) (g.J.Journal.told c.carry_out.new.journal) (g.W.Wires.seen c.carry_out.new.wires) c.carry_out.new.held (view c.carry_out.new.seat)) (place_of (g.J.Sink.contents c.run_posts.new.journal) (g.J.Journal.told c.run_posts.new.journal) (g.W.Wires.seen c.run_posts.new.wires) c.run_posts.new.held (view c.run_posts.new.seat)) (place_of (g.J.Sink.contents c.offer_all.new.journal) (g.J.Journal.told c.offer_all.new.journal) (g.W.Wires.seen c.offer_all.new.wires) c.offer_all.new.held (view c.offer_all.new.seat)) c.now.ensures.tells (drained_as c.as_slice-drained.result.now _ _ _ c.as_slice-drained.ensures c.in-Ok.ensures.ran) c.in_ok-carry_out.ensures.carries c.in_ok-run_posts.ensures.runs c.in-Ok-current.snapshot.version c.in-Ok-current.snapshot.pressures c.obey.new.core.kind (place_of (g.J.Sink.contents c.obey.new.journal) (g.J.Journal.told c.obey.new.journal) (g.W.Wires.seen c.obey.new.wires) c.obey.new.held (view c.obey.new.seat)) c.in_ok-obey.ensures.carries c.take_next.new.core.kind (place_of (g.J.Sink.contents c.take_next.new.journal) (g.J.Journal.told c.take_next.new.journal) (g.W.Wires.seen c.take_next.new.wires) c.take_next.new.held (view c.take_next.new.seat)) c.in_ok-stops.stops c.in_ok-stops.ensures.takes c.in_err-offer_all.ensures.offers)
 
 pub returns-in_err-offer_all-clause-pass : goal.returns-in_err-offer_all-clause-pass
-returns-in_err-offer_all-clause-pass g c = c.drain.ensures.pass
+returns-in_err-offer_all-clause-pass g c = c.drain_if_any.ensures.pass
 
 pub returns-in_err-offer_all-clause-keeps : goal.returns-in_err-offer_all-clause-keeps
 returns-in_err-offer_all-clause-keeps g c = keeps_more c.args.permits.now (g.W.Wires.seen c.args.wires.now) (g.W.Wires.seen c.take_next.new.wires) (g.W.Wires.seen c.offer_all.new.wires) c.args.held.now c.take_next.new.held c.offer_all.new.held (view c.args.seat.now) c.take_next.new.seat c.offer_all.new.seat (keeps_more c.args.permits.now (g.W.Wires.seen c.args.wires.now) (g.W.Wires.seen c.obey.new.wires) (g.W.Wires.seen c.take_next.new.wires) c.args.held.now c.obey.new.held c.take_next.new.held (view c.args.seat.now) c.obey.new.seat c.take_next.new.seat (keeps_more c.args.permits.now (g.W.Wires.seen c.args.wires.now) (g.W.Wires.seen c.run_posts.new.wires) (g.W.Wires.seen c.obey.new.wires) c.args.held.now c.run_posts.new.held c.obey.new.held (view c.args.seat.now) c.run_posts.new.seat c.obey.new.seat (keeps_more c.args.permits.now (g.W.Wires.seen c.args.wires.now) (g.W.Wires.seen c.carry_out.new.wires) (g.W.Wires.seen c.run_posts.new.wires) c.args.held.now c.carry_out.new.held c.run_posts.new.held (view c.args.seat.now) c.carry_out.new.seat c.run_posts.new.seat c.carry_out.ensures.keeps c.run_posts.ensures.keeps) c.obey.ensures.keeps) c.take_next.ensures.keeps) c.offer_all.ensures.keeps
@@ -175,12 +174,12 @@ returns-in_err-offer_all-clause-rises g c =
 
 pub returns-clause-turns : goal.returns-clause-turns
 returns-clause-turns g c =
-    turn_is c.args.names.now (sides_of (g.C.Clock.moments c.args.clock.now) (hands.view c.args.pass.now.pass) (looks c.args.follower.now) c.args.follower.now.kept) (sides_of (g.C.Clock.moments c.now.new.self) (hands.view c.drain.new.pass.pass) (looks c.current.new.self) c.current.new.self.kept) c.now.result c.in-Ok-current.snapshot.version c.as_slice-drained.result.now c.in-Ok-current.snapshot.pressures c.args.core.now.kind c.carry_out.new.core.kind c.run_posts.new.core.kind c.obey.new.core.kind c.take_next.new.core.kind c.offer_all.new.core.kind (place_of (g.J.Sink.contents c.args.journal.now) (g.J.Journal.told c.args.journal.now) (g.W.Wires.seen c.args.wires.now) c.args.held.now (view c.args.seat.now)) (place_of (g.J.Sink.contents c.carry_out.new.journal) (g.J.Journal.told c.carry_out.new.journal) (g.W.Wires.seen c.carry_out.new.wires) c.carry_out.new.held (view c.carry_out.new.seat)) (place_of (g.J.Sink.contents c.run_posts.new.journal) (g.J.Journal.told c.run_posts.new.journal) (g.W.Wires.seen c.run_posts.new.wires) c.run_posts.new.held (view c.run_posts.new.seat)) (place_of (g.J.Sink.contents c.obey.new.journal) (g.J.Journal.told c.obey.new.journal) (g.W.Wires.seen c.obey.new.wires) c.obey.new.held (view c.obey.new.seat)) (place_of (g.J.Sink.contents c.take_next.new.journal) (g.J.Journal.told c.take_next.new.journal) (g.W.Wires.seen c.take_next.new.wires) c.take_next.new.held (view c.take_next.new.seat)) (place_of (g.J.Sink.contents c.offer_all.new.journal) (g.J.Journal.told c.offer_all.new.journal) (g.W.Wires.seen c.offer_all.new.wires) c.offer_all.new.held (view c.offer_all.new.seat)) c.in_ok-stops.stops
-    (asks_once (sides_of (g.C.Clock.moments c.args.clock.now) (hands.view c.args.pass.now.pass) (looks c.args.follower.now) c.args.follower.now.kept) (sides_of (g.C.Clock.moments c.now.new.self) (hands.view c.drain.new.pass.pass) (looks c.current.new.self) c.current.new.self.kept) c.now.result c.as_slice-drained.result.now c.in-Ok-current.snapshot.version c.in-Ok-current.snapshot.pressures c.now.ensures.tells (drained_as c.as_slice-drained.result.now _ _ _ c.as_slice-drained.ensures c.in-Ok.ensures.ran) c.in-Ok.ensures.drains c.in-Ok-current.ensures.look.0 c.in-Ok-current.ensures.snapshot.0 (front_of_kept c.in-Ok-current.snapshot.pressures c.current.new.self.kept.pressures _ c.in-Ok-current.ensures.snapshot.1 c.in-Ok-current.ensures.len) c.in-Ok-current.ensures.rising c.in-Ok-current.ensures.fresh)
+    turn_is c.args.names.now (sides_of (g.C.Clock.moments c.args.clock.now) (hands.view c.args.pass.now.pass) (looks c.args.follower.now) c.args.follower.now.kept) (sides_of (g.C.Clock.moments c.now.new.self) (hands.view c.drain_if_any.new.pass.pass) (looks c.current.new.self) c.current.new.self.kept) c.now.result c.in-Ok-current.snapshot.version c.as_slice-drained.result.now c.in-Ok-current.snapshot.pressures c.args.core.now.kind c.carry_out.new.core.kind c.run_posts.new.core.kind c.obey.new.core.kind c.take_next.new.core.kind c.offer_all.new.core.kind (place_of (g.J.Sink.contents c.args.journal.now) (g.J.Journal.told c.args.journal.now) (g.W.Wires.seen c.args.wires.now) c.args.held.now (view c.args.seat.now)) (place_of (g.J.Sink.contents c.carry_out.new.journal) (g.J.Journal.told c.carry_out.new.journal) (g.W.Wires.seen c.carry_out.new.wires) c.carry_out.new.held (view c.carry_out.new.seat)) (place_of (g.J.Sink.contents c.run_posts.new.journal) (g.J.Journal.told c.run_posts.new.journal) (g.W.Wires.seen c.run_posts.new.wires) c.run_posts.new.held (view c.run_posts.new.seat)) (place_of (g.J.Sink.contents c.obey.new.journal) (g.J.Journal.told c.obey.new.journal) (g.W.Wires.seen c.obey.new.wires) c.obey.new.held (view c.obey.new.seat)) (place_of (g.J.Sink.contents c.take_next.new.journal) (g.J.Journal.told c.take_next.new.journal) (g.W.Wires.seen c.take_next.new.wires) c.take_next.new.held (view c.take_next.new.seat)) (place_of (g.J.Sink.contents c.offer_all.new.journal) (g.J.Journal.told c.offer_all.new.journal) (g.W.Wires.seen c.offer_all.new.wires) c.offer_all.new.held (view c.offer_all.new.seat)) c.in_ok-stops.stops
+    (asks_once (sides_of (g.C.Clock.moments c.args.clock.now) (hands.view c.args.pass.now.pass) (looks c.args.follower.now) c.args.follower.now.kept) (sides_of (g.C.Clock.moments c.now.new.self) (hands.view c.drain_if_any.new.pass.pass) (looks c.current.new.self) c.current.new.self.kept) c.now.result c.as_slice-drained.result.now c.in-Ok-current.snapshot.version c.in-Ok-current.snapshot.pressures c.now.ensures.tells (drained_as c.as_slice-drained.result.now _ _ _ c.as_slice-drained.ensures c.in-Ok.ensures.ran) c.in-Ok.ensures.drains c.in-Ok-current.ensures.look.0 c.in-Ok-current.ensures.snapshot.0 (front_of_kept c.in-Ok-current.snapshot.pressures c.current.new.self.kept.pressures _ c.in-Ok-current.ensures.snapshot.1 c.in-Ok-current.ensures.len) c.in-Ok-current.ensures.rising c.in-Ok-current.ensures.fresh)
     c.in_ok-carry_out.ensures.carries c.in_ok-run_posts.ensures.runs c.in_ok-obey.ensures.carries c.in_ok-stops.ensures.takes c.in_ok-offer_all.ensures.offers
 
 pub returns-clause-pass : goal.returns-clause-pass
-returns-clause-pass g c = c.drain.ensures.pass
+returns-clause-pass g c = c.drain_if_any.ensures.pass
 
 pub returns-clause-keeps : goal.returns-clause-keeps
 returns-clause-keeps g c = keeps_more c.args.permits.now (g.W.Wires.seen c.args.wires.now) (g.W.Wires.seen c.take_next.new.wires) (g.W.Wires.seen c.offer_all.new.wires) c.args.held.now c.take_next.new.held c.offer_all.new.held (view c.args.seat.now) c.take_next.new.seat c.offer_all.new.seat (keeps_more c.args.permits.now (g.W.Wires.seen c.args.wires.now) (g.W.Wires.seen c.obey.new.wires) (g.W.Wires.seen c.take_next.new.wires) c.args.held.now c.obey.new.held c.take_next.new.held (view c.args.seat.now) c.obey.new.seat c.take_next.new.seat (keeps_more c.args.permits.now (g.W.Wires.seen c.args.wires.now) (g.W.Wires.seen c.run_posts.new.wires) (g.W.Wires.seen c.obey.new.wires) c.args.held.now c.run_posts.new.held c.obey.new.held (view c.args.seat.now) c.run_posts.new.seat c.obey.new.seat (keeps_more c.args.permits.now (g.W.Wires.seen c.args.wires.now) (g.W.Wires.seen c.carry_out.new.wires) (g.W.Wires.seen c.run_posts.new.wires) c.args.held.now c.carry_out.new.held c.run_posts.new.held (view c.args.seat.now) c.carry_out.new.seat c.run_posts.new.seat c.carry_out.ensures.keeps c.run_posts.ensures.keeps) c.obey.ensures.keeps) c.take_next.ensures.keeps) c.offer_all.ensures.keeps

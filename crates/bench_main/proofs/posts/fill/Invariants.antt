@@ -1,5 +1,0 @@
-use Rattle.post_queue.specs.Clauses.{IsPosterOf}
-use Rattle.bench_main.proofs.posts.fill.Given as goal
-
-abbrev pub invariant-loop : goal.invariant-loop
-invariant-loop g l = IsPosterOf l.posts l.pass

@@ -1,5 +1,0 @@
-use Rattle.shared_tokens.specs.Seats.{IsSeatOf}
-use Rattle.bench_main.proofs.tokens.take_often.Given as goal
-
-abbrev pub invariant-loop : goal.invariant-loop
-invariant-loop l = IsSeatOf l.bucket l.taker.seat

@@ -1,3 +1,0 @@
-mod Fitting
-mod Starting
-mod Ticking

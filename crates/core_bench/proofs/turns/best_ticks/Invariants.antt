@@ -1,5 +1,0 @@
-use Rattle.worker_core.specs.Sessions.{RestsWire}
-use Rattle.core_bench.proofs.turns.best_ticks.Given as goal
-
-abbrev pub invariant-loop-round : goal.invariant-loop-round
-invariant-loop-round g l = RestsWire l.core.kind

@@ -1,6 +1,0 @@
--- A core at rest may take a tick.
-use Rattle.core_bench.proofs.Ticking.{may_take}
-use Rattle.core_bench.proofs.turns.run_ticks.Goals as goal
-
-pub dispatch-requires : goal.dispatch-requires
-dispatch-requires c = may_take _ _ _ c.loop-turn.invariant

@@ -1,5 +1,0 @@
-use Rattle.worker_core.specs.Sessions.{RestsWire}
-use Rattle.core_bench.proofs.turns.run_ticks.Given as goal
-
-abbrev pub invariant-loop-turn : goal.invariant-loop-turn
-invariant-loop-turn l = RestsWire l.core.kind

@@ -1,0 +1,111 @@
+// Small requests and their responses, one after the other.
+use crate::bench::drill::{drill_once, events_a_second};
+use crate::bench::peers::{Peers, client_and_cluster, stream_after};
+use crate::bench::rig::{cost_behind, no_memory};
+use crate::bench::stopwatch::per_second;
+use io_ports::NoMemory;
+use std::alloc::Global;
+use std::time::CpuClock;
+
+/// The exchanges of a turn.
+pub const EXCHANGES: u32 = 20_000;
+
+/// How many exchanges go on at the same time.
+const AT_ONCE: u32 = 32;
+
+/// How often each side is measured; the best counts.
+const TURNS: u32 = 7;
+
+pub const CONFIG: &[u8] =
+    b"[limits]\nwrite_buffer = 65536\nsend_buffer = 16384\nconnection_window = 16777216\n[[clusters]]\nname = \"a\"\n[[routes]]\nprefix = \"/\"\ncluster = \"a\"\n";
+
+/// Between whom exchanges go: a client and a cluster, on streams from this one on.
+#[derive(Clone, Copy)]
+pub struct Route {
+    pub client: u32,
+    pub cluster: u32,
+    pub first: u32,
+}
+
+/// So many exchanges, `at_once` at the same time.
+pub fn exchanges(alloc: Global, route: Route, count: u32, at_once: u32) -> Result<Peers, NoMemory> {
+    let mut peers = Peers::new(alloc);
+    for turn in 0..count / at_once.max(1) {
+        let first = stream_after(route.first, turn.saturating_mul(at_once));
+        exchange(&mut peers, Route { first, ..route }, at_once)?;
+    }
+    Ok(peers)
+}
+
+// Exchanges at the same time, each with a body of 100 octets.
+fn exchange(peers: &mut Peers, route: Route, at_once: u32) -> Result<(), NoMemory> {
+    peers.gets(route.client, route.first, at_once)?;
+    peers.room(route.cluster)?;
+    peers.responses(route.cluster, route.first, at_once, &[7; 100])?;
+    peers.room(route.client)
+}
+
+/// So many exchanges between a client and a cluster that have just come: nanoseconds.
+fn once(rt: &(impl AllocGlobal + CpuClock), count: u32, at_once: u32) -> anyhow::Result<u64> {
+    let route = Route {
+        client: 1,
+        cluster: 2,
+        first: 1,
+    };
+    let before = client_and_cluster(rt.alloc(), 1, 2).map_err(no_memory)?;
+    let then = exchanges(rt.alloc(), route, count, at_once.max(1)).map_err(no_memory)?;
+    Ok(cost_behind(rt, CONFIG, &before, &then)?.nanos)
+}
+
+/// The fewest nanoseconds that a drill took, and the exchanges of a turn by ones and by thirty-twos.
+#[derive(Clone, Copy)]
+struct Least {
+    drill: u64,
+    ones: u64,
+    many: u64,
+}
+
+// The best of some turns, in which the three are run one after the other.
+fn measure(rt: &(impl AllocGlobal + CpuClock)) -> anyhow::Result<Least> {
+    let mut drill = u64::MAX;
+    let mut ones = u64::MAX;
+    let mut many = u64::MAX;
+    for _turn in 0..TURNS {
+        drill = drill.min(drill_once(rt)?);
+        ones = ones.min(once(rt, EXCHANGES, 1)?);
+        many = many.min(once(rt, EXCHANGES, AT_ONCE)?);
+    }
+    Ok(Least { drill, ones, many })
+}
+
+/// Small exchanges by ones and by thirty-twos, beside the drill.
+pub fn run(rt: &(impl AllocGlobal + Print + CpuClock)) -> anyhow::Result<()> {
+    let least = measure(rt)?;
+    let drill = events_a_second(least.drill);
+    println!(rt; "drill: {drill} events a second")?;
+    report(rt, 1, least.ones, drill)?;
+    report(rt, AT_ONCE, least.many, drill)
+}
+
+fn report(rt: &impl Print, at_once: u32, nanos: u64, drill: u64) -> anyhow::Result<()> {
+    let rate = per_second(u64::from(EXCHANGES), nanos.max(1));
+    println!(rt;
+        "{at_once} at once: {rate} exchanges a second, {} in a thousand of the drill's events",
+        rate.saturating_mul(1_000) / drill.max(1)
+    )?;
+    Ok(())
+}
+
+/// The exchanges alone, so many, for a profile.
+pub fn alone(
+    rt: &(impl AllocGlobal + Print + CpuClock),
+    count: u32,
+    at_once: u32,
+) -> anyhow::Result<()> {
+    let nanos = once(rt, count, at_once)?;
+    println!(rt;
+        "{count} exchanges, {at_once} at once: {} ns each",
+        nanos / u64::from(count.max(1))
+    )?;
+    Ok(())
+}
