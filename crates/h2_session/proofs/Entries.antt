@@ -3,7 +3,6 @@ use Rattle.std.proofs.Common.{◌≡◌, ℕ, ◌<◌, ◌≤◌, List, [], ◌�
 use Rattle.std.specs.Int.{from_be_bytes, w16, w32}
 use Rattle.std.specs.Prelude.{suc, ◌/◌}
 use Rattle.h2_session.specs.Errors.{settings_of}
-use Rattle.h2_session.specs.declared.act.Setting.{Setting}
 
 pub first_of_settings : (l front rest : List ℕ) (i v : ℕ) → 6 ≤ length l → front ≡ take 6 l → rest ≡ drop 6 l
     → i ≡ from_be_bytes w16 (get_or front 0 0 ∷ get_or front 1 0 ∷ [])

@@ -1,5 +1,5 @@
 -- The values that settings give a number, one after another.
-use Rattle.std.proofs.Common.{◌≡◌, ℕ, ◌<◌, ◌≤◌, ◌||◌, Bool, true, false, List, [], ◌∷◌, Option, Some, None, get_or, length, ap, sym, subst, ◌∙◌, refl, arith}
+use Rattle.std.proofs.Common.{◌≡◌, ℕ, ◌<◌, ◌||◌, Bool, true, false, List, [], ◌∷◌, Option, Some, None, get_or, length, ap, sym, subst, ◌∙◌, refl, arith}
 use Rattle.std.proofs.Math.ListN.{set}
 use Rattle.std.proofs.lemmas.Bool.Decides.{nat_tests}
 use Rattle.std.proofs.lemmas.Grind.{get_or-set_at}
@@ -106,12 +106,15 @@ all_taken id l settings v so_far short =
     subst (HasValues id settings) (sym (sym (ap (λ (k : List Setting). after_all id k v) (no_settings l short)) ∙ so_far)) (has_values id settings)
 
 -- ---- writes
+same_values : (w : Values) (last : Option ℕ) (least greatest : ℕ) → w.last ≡ last → w.least ≡ least → w.greatest ≡ greatest → w ≡ record { last = last; least = least; greatest = greatest }
+same_values w last least greatest a b c = rw (← a, ← b, ← c) refl
+
 pub written : (xs : List Values) (p id n : ℕ) (w d : Values) → p < length xs → w.last ≡ Some n → w.least ≡ min (get_or xs p d).least n → w.greatest ≡ max (get_or xs p d).greatest n
     → get_or (set xs p w) id no_values ≡ (if id == p then with_value n (get_or xs id no_values) else get_or xs id no_values)
 written xs p id n w d within last least greatest = at (id == p) refl
   where
     all : w ≡ with_value n (get_or xs p d)
-    all = cc
+    all = same_values w (Some n) (min (get_or xs p d).least n) (max (get_or xs p d).greatest n) last least greatest
 
     at : (b : Bool) → (id == p) ≡ b → get_or (set xs p w) id no_values ≡ (if b then with_value n (get_or xs id no_values) else get_or xs id no_values)
     at true e =

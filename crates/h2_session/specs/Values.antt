@@ -3,7 +3,6 @@ use Rattle.h2_frames.specs.Frame.{Frame, Settings}
 use Rattle.h2_frames.specs.declared.codes.TheConstants.{FLOW_CONTROL_ERROR, PROTOCOL_ERROR}
 use Rattle.h2_session.specs.Errors.{code_when, first_of, names_outside, settings_of}
 use Rattle.h2_session.specs.declared.act.Setting.{Setting}
-use Rattle.h2_session.specs.declared.named.InitialWindow.{InitialWindow}
 use Rattle.h2_session.specs.declared.named.Named.{Named}
 use Rattle.h2_session.specs.declared.named.Outside.{Outside}
 use Rattle.h2_session.specs.declared.named.Values.{Values}

@@ -17,7 +17,7 @@ pub struct Setting {
 }
 
 /// The entries of a SETTINGS frame, in its order. They are kept as the octets that spell them, beside what they come to.
-#[derive(Debug, Drop)]
+#[derive(Drop)]
 pub struct SettingList {
     octets: Octets,
     named: Named,

@@ -30,7 +30,7 @@ const LEAST_FRAME_SIZE: u32 = 16_384;
 const GREATEST_FRAME_SIZE: u32 = 16_777_215;
 
 /// The initial windows of streams that settings name.
-#[derive(Clone, Copy, Debug)]
+#[derive(Clone, Copy)]
 pub struct InitialWindow {
     /// The greatest of them: no window may pass the largest one on the way.
     pub greatest: u32,
@@ -39,7 +39,7 @@ pub struct InitialWindow {
 }
 
 /// What settings come to that are carried out one after another.
-#[derive(Clone, Copy, Debug)]
+#[derive(Clone, Copy)]
 pub struct Named {
     /// Whether the size of the header table is named.
     pub table: bool,

@@ -90,7 +90,10 @@ impl Session {
             Frame::Settings {
                 ack: false,
                 entries,
-            } => settings_act(self.alloc, entries, content, named),
+            } => {
+                let list = list_with(self.alloc, entries, content, named)?;
+                Ok(Act::Settings { list })
+            }
             _ => self.take(frame),
         }
     }
@@ -200,23 +203,22 @@ fn data_act(
     })
 }
 
-// What SETTINGS that is no acknowledgement means.
-fn settings_act(
+// The settings of entries, in the octets that are handed in or else in a copy.
+fn list_with(
     alloc: Global,
     entries: &[u8],
     content: Option<Octets>,
     named: Option<Named>,
-) -> Result<Act, NoMemory>
+) -> Result<SettingList, NoMemory>
     requires content { IfSome content (λ shared. shared ≡ entries.now) }
     requires named { IfSome named (λ n. n ≡ named_in (settings_of entries.now)) }
-    ensures { IfOk result (λ act. act ≡ act.Settings (settings_of entries.now)) }
+    ensures { IfOk result (λ list. list ≡ settings_of entries.now) }
 {
     let octets = content_or_copy(alloc, entries, content)?;
-    let list = match named {
+    Ok(match named {
         Some(named) => SettingList::of(octets, named),
         None => SettingList::from_octets(octets),
-    };
-    Ok(Act::Settings { list })
+    })
 }
 
 // The octets that are handed in, or else a copy.
