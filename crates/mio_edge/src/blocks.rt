@@ -9,7 +9,7 @@ use std::marker::Model;
 use std::mem;
 use std::sync::Arc;
 
-/// How many blocks there are at most of which parts are lent.
+/// How many blocks there are at most, beside the one that is read to, of which parts are lent.
 const MOST_BLOCKS: usize = 32;
 
 /// The block that was read to last, and others. Parts of it share it, and it is read to again once nobody holds any of them. While
