@@ -30,12 +30,13 @@ pub fn say_texts(which: &str, said: &mut Said) {
 fn say_drills(said: &mut Said) {
     say_text(drill_text(said.alloc()), said);
     for n in [1, 2, 1_000] {
-        say_drill(n, said);
+        let events = drill_events(said.alloc(), n);
+        say_drill(n, events, said);
     }
 }
 
-fn say_drill(n: u32, said: &mut Said) {
-    let Ok(events) = drill_events(said.alloc(), n) else {
+fn say_drill(n: u32, events: Result<EventList, NoMemory>, said: &mut Said) {
+    let Ok(events) = events else {
         said.lack();
         return;
     };
