@@ -1,11 +1,9 @@
 // What the entries of a SETTINGS frame come to (RFC 9113 sections 6.5.2 and 6.5.3).
 ghost use Rattle.h2_session.specs.Errors.{settings_of};
-ghost use Rattle.h2_frames.specs.View.{view};
-ghost use Rattle.h2_session.specs.Values.{HasValues, named_by, named_in, no_values, none_outside, outside_by, outside_in};
+ghost use Rattle.h2_session.specs.Values.{HasValues, named_in, no_values, none_outside, outside_in};
 ghost use Rattle.std.specs.Prelude.{◌≡◌, ◌<◌, ◌||◌, Some, max, min, nat_lt, option_map, slice_index_or, ℕ};
 
 use crate::settings::{SETTING_SIZE, first_setting};
-use h2_frames::Frame;
 
 // The identifiers of the settings that are looked at (RFC 9113 section 6.5.2).
 const HEADER_TABLE_SIZE: usize = 1;
@@ -57,6 +55,19 @@ pub(crate) struct Outside {
     pub(crate) push: bool,
     pub(crate) initial_window: bool,
     pub(crate) frame_size: bool,
+}
+
+impl Outside {
+    /// No value is outside its range.
+    pub(crate) fn none() -> Self
+        ensures { result ≡ none_outside }
+    {
+        Outside {
+            push: false,
+            initial_window: false,
+            frame_size: false,
+        }
+    }
 }
 
 /// What the values come to that settings give one number.
@@ -154,28 +165,4 @@ pub(crate) fn read_named(entries: &[u8], most_push: u32) -> (Named, Outside)
         ),
     };
     (named, outside)
-}
-
-/// The same of a frame: only SETTINGS has entries.
-#[inline(always)]
-pub(crate) fn named_by(frame: &Frame, client_side: bool) -> (Option<Named>, Outside)
-    ensures named { result.0 ≡ named_by (view frame.now) }
-    ensures outside { result.1 ≡ outside_by client_side (view frame.now) }
-{
-    let Frame::Settings { entries, .. } = *frame else {
-        return (None, none_outside());
-    };
-    let (named, outside) = read_named(entries, if client_side { 0 } else { 1 });
-    (Some(named), outside)
-}
-
-// No value is outside its range.
-fn none_outside() -> Outside
-    ensures { result ≡ none_outside }
-{
-    Outside {
-        push: false,
-        initial_window: false,
-        frame_size: false,
-    }
 }
