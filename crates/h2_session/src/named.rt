@@ -89,7 +89,8 @@ impl Values {
         }
     }
 
-    // One more value. The branches are told ahead even where values are many: what is least and greatest so far seldom changes.
+    // One more value. What is least and greatest so far seldom changes, so nothing is stored there else: the next value of the number
+    // needn't wait for it.
     #[inline(always)]
     fn take(&mut self, value: u32)
         ensures last { self.new.last ≡ Some value }
@@ -97,12 +98,20 @@ impl Values {
         ensures greatest { self.new.greatest ≡ max self.old.greatest value }
     {
         self.last = Some(value);
-        if value < self.least {
-            self.least = value;
+        if value < self.least || self.greatest < value {
+            self.widen(value);
         }
-        if value > self.greatest {
-            self.greatest = value;
-        }
+    }
+
+    // A value that is less or greater than all before it. It isn't inlined, so that the branch to it stays one.
+    #[inline(never)]
+    fn widen(&mut self, value: u32)
+        ensures last { self.new.last ≡ self.old.last }
+        ensures least { self.new.least ≡ min self.old.least value }
+        ensures greatest { self.new.greatest ≡ max self.old.greatest value }
+    {
+        self.least = self.least.min(value);
+        self.greatest = self.greatest.max(value);
     }
 }
 
