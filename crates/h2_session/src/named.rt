@@ -1,11 +1,9 @@
 // What the entries of a SETTINGS frame come to (RFC 9113 sections 6.5.2 and 6.5.3).
 ghost use Rattle.h2_session.specs.Errors.{settings_of};
-ghost use Rattle.h2_frames.specs.View.{view};
-ghost use Rattle.h2_session.specs.Values.{HasValues, named_by, named_in, no_values, none_outside, outside_by, outside_in};
+ghost use Rattle.h2_session.specs.Values.{HasValues, named_in, no_values, none_outside, outside_in};
 ghost use Rattle.std.specs.Prelude.{◌≡◌, ◌<◌, ◌||◌, Some, max, min, nat_lt, option_map, slice_index_or, ℕ};
 
 use crate::settings::{SETTING_SIZE, first_setting};
-use h2_frames::Frame;
 
 // The identifiers of the settings that are looked at (RFC 9113 section 6.5.2).
 const HEADER_TABLE_SIZE: usize = 1;
@@ -59,6 +57,19 @@ pub(crate) struct Outside {
     pub(crate) frame_size: bool,
 }
 
+impl Outside {
+    /// No value is outside its range.
+    pub(crate) fn none() -> Self
+        ensures { result ≡ none_outside }
+    {
+        Outside {
+            push: false,
+            initial_window: false,
+            frame_size: false,
+        }
+    }
+}
+
 /// What the values come to that settings give one number.
 #[derive(Clone, Copy)]
 pub(crate) struct Values {
@@ -78,7 +89,8 @@ impl Values {
         }
     }
 
-    // One more value. The branches are told ahead even where values are many: what is least and greatest so far seldom changes.
+    // One more value. What is least and greatest so far seldom changes, so nothing is stored there else: the next value of the number
+    // needn't wait for it.
     #[inline(always)]
     fn take(&mut self, value: u32)
         ensures last { self.new.last ≡ Some value }
@@ -86,12 +98,20 @@ impl Values {
         ensures greatest { self.new.greatest ≡ max self.old.greatest value }
     {
         self.last = Some(value);
-        if value < self.least {
-            self.least = value;
+        if value < self.least || self.greatest < value {
+            self.widen(value);
         }
-        if value > self.greatest {
-            self.greatest = value;
-        }
+    }
+
+    // A value that is less or greater than all before it. It isn't inlined, so that the branch to it stays one.
+    #[inline(never)]
+    fn widen(&mut self, value: u32)
+        ensures last { self.new.last ≡ self.old.last }
+        ensures least { self.new.least ≡ min self.old.least value }
+        ensures greatest { self.new.greatest ≡ max self.old.greatest value }
+    {
+        self.least = self.least.min(value);
+        self.greatest = self.greatest.max(value);
     }
 }
 
@@ -154,28 +174,4 @@ pub(crate) fn read_named(entries: &[u8], most_push: u32) -> (Named, Outside)
         ),
     };
     (named, outside)
-}
-
-/// The same of a frame: only SETTINGS has entries.
-#[inline(always)]
-pub(crate) fn named_by(frame: &Frame, client_side: bool) -> (Option<Named>, Outside)
-    ensures named { result.0 ≡ named_by (view frame.now) }
-    ensures outside { result.1 ≡ outside_by client_side (view frame.now) }
-{
-    let Frame::Settings { entries, .. } = *frame else {
-        return (None, none_outside());
-    };
-    let (named, outside) = read_named(entries, if client_side { 0 } else { 1 });
-    (Some(named), outside)
-}
-
-// No value is outside its range.
-fn none_outside() -> Outside
-    ensures { result ≡ none_outside }
-{
-    Outside {
-        push: false,
-        initial_window: false,
-        frame_size: false,
-    }
 }

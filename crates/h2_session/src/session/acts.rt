@@ -9,11 +9,11 @@ ghost use Rattle.h2_session.specs.Happened.{Happening};
 ghost use Rattle.h2_session.specs.Table.{stream_at};
 ghost use Rattle.h2_session.specs.declared.act.Act.TheVariants as act;
 ghost use Rattle.h2_session.specs.Summary.{StandsFor, Takes};
-ghost use Rattle.h2_session.specs.Values.{named_by, named_in};
+ghost use Rattle.h2_session.specs.Values.{named_by, named_in, outside_by};
 
 use super::Session;
 use crate::act::{Act, SettingList};
-use crate::named::{Named, named_by};
+use crate::named::{Named, Outside, read_named};
 use crate::settings::read_settings;
 use crate::streams::Stream;
 use h2_frames::Frame;
@@ -53,7 +53,36 @@ impl Session {
         ensures numbered { IfOk result (λ act. stream_of act < 2 ^ 31) }
         ensures err { OnErr result (self.new ≡ self.old) }
     {
-        let (named, outside) = named_by(frame, self.client_side);
+        let Frame::Settings { entries, .. } = *frame else {
+            return self.accept_judged(frame, content, None, Outside::none());
+        };
+        let (named, outside) = read_named(entries, if self.client_side { 0 } else { 1 });
+        self.accept_judged(frame, content, Some(named), outside)
+    }
+
+    // As `accept_with`, where it is known what SETTINGS come to, and which of them are outside their ranges. It is inlined, so that
+    // nothing is handed on where another frame comes.
+    #[inline(always)]
+    fn accept_judged(
+        &mut self,
+        frame: &Frame,
+        content: Option<Octets>,
+        named: Option<Named>,
+        outside: Outside,
+    ) -> Result<Act, NoMemory>
+        requires writable { IsWritable (view frame.now) }
+        requires padding { padding_of (view frame.now) ≤ 256 }
+        requires content { IfSome content (IsContentOf (view frame.now)) }
+        requires named { named ≡ named_by (view frame.now) }
+        requires outside { outside ≡ outside_by self.old.side.client_side (view frame.now) }
+        ensures act { (past : List Happening) → StandsFor past self.old
+            → IfOk result (λ act. act ≡ act_of self.old.side (view frame.now) past) }
+        ensures stands { (past : List Happening) → StandsFor past self.old
+            → OnOk result (StandsFor (after self.old.side (view frame.now) past) self.new) }
+        ensures side { self.new.side ≡ self.old.side }
+        ensures numbered { IfOk result (λ act. stream_of act < 2 ^ 31) }
+        ensures err { OnErr result (self.new ≡ self.old) }
+    {
         if let Some(code) = self.error(frame, outside) {
             self.failed = Some(code);
             return Ok(Act::ConnError { code });

@@ -11,7 +11,7 @@ use Rattle.h2_session.specs.contracts.session.Session.{the_view}
 use Rattle.h2_session.proofs.Errors.{not_broken}
 use Rattle.h2_session.proofs.Accepts.{error_as, failed_stands, failed_with, took_stands}
 use Rattle.h2_session.proofs.Frames.{started}
-use Rattle.h2_session.proofs.session.Session.accept_with.Goals as goal
+use Rattle.h2_session.proofs.session.Session.accept_judged.Goals as goal
 
 pub returns-in-Some-clause-stands : goal.returns-in-Some-clause-stands
 returns-in-Some-clause-stands c = λ past h.
