@@ -1,5 +1,5 @@
 // What a follower reads, learns and answers.
-ghost use Rattle.std.specs.Prelude.{◌≡◌, ◌≤◌, ◌<◌, ◌^◌, ◌⊎◌, Some, length, take, IfOk, IfSome, MatchResult, OnOk, OnErr};
+ghost use Rattle.std.specs.Prelude.{◌≡◌, ◌≤◌, ◌<◌, ◌^◌, ◌⊎◌, Some, length, take, vec_len, IfOk, IfSome, MatchOption, MatchResult, OnOk, OnErr};
 ghost use Rattle.left_right.specs.Sides.{view};
 ghost use Rattle.overload_core.specs.ActionStates.{actions_at};
 ghost use Rattle.shared_state.specs.Entries.{StartsWith};
@@ -86,6 +86,32 @@ impl Follower {
         unreachable!()
     }
 
+    // Memory for the pressures of a snapshot.
+    fn room(&self, alloc: Global) -> Result<Vec<u32>, NoMemory>
+        ensures { IfOk result (λ room. vec_len room ≡ resources_of self.now) }
+    {
+        let pressures = &self.kept.pressures[..self.board.resources];
+        Ok(Vec::from_slice(alloc, pressures)?)
+    }
+
+    // What is kept, in memory that was taken before.
+    fn snapshot(&self, mut room: Vec<u32>) -> Snapshot
+        requires { vec_len room ≡ resources_of self.now }
+        ensures is { (result.version ≡ self.now.kept.version) × (result.pressures ≡ take (resources_of self.now) self.now.kept.pressures) }
+        ensures number { result.version < 2 ^ 63 }
+        ensures len { length result.pressures ≡ resources_of self.now }
+        ensures actions { result.actions ≡ actions_at (triggers_of self.now) result.pressures }
+    {
+        let pressures = &self.kept.pressures[..self.board.resources];
+        room.as_mut_slice().copy_from_slice(pressures);
+        let actions = action_states(&self.board.config, room.as_slice());
+        Snapshot {
+            version: self.kept.version,
+            pressures: PressureList::from_vec(room),
+            actions,
+        }
+    }
+
     /// What is published now. Its memory is taken first, so after `NoMemory` nothing has changed. Then it loads the version
     /// word, once, and reads what is shown until that is no older than the version found; the publisher shows a version
     /// before it raises the word, so the first reading does where publisher and follower are of one `make_shared`. It is
@@ -104,19 +130,45 @@ impl Follower {
         ensures same { (self.new.board ≡ self.old.board) × (self.new.seat.table_id ≡ self.old.seat.table_id) }
         ensures err { OnErr result (self.new ≡ self.old) }
     {
-        let resources = self.board.resources;
-        let mut pressures = Vec::from_slice(alloc, &self.kept.pressures[..resources])?;
+        let room = self.room(alloc)?;
         let found = look(&self.board, &mut self.seat);
         self.renew(rt, found);
-        pressures
-            .as_mut_slice()
-            .copy_from_slice(&self.kept.pressures[..resources]);
-        let actions = action_states(&self.board.config, pressures.as_slice());
-        Ok(Snapshot {
-            version: self.kept.version,
-            pressures: PressureList::from_vec(pressures),
-            actions,
-        })
+        Ok(self.snapshot(room))
+    }
+
+    /// What is published now, where its version is above `than`; none exactly where it isn't. It loads the version word, once. Where
+    /// what this follower keeps is no older than the number found and not above `than`, nothing is read and no memory is taken.
+    /// Else it takes its memory, and goes on as `current` does. After `NoMemory` nothing but the look has changed.
+    pub fn newer<R: Wait>(
+        &mut self,
+        rt: &R,
+        alloc: Global,
+        than: u64,
+    ) -> Result<Option<Snapshot>, NoMemory>
+        ensures newer { IfOk result (λ o. MatchOption o
+            (self.new.kept.version ≤ than)
+            (λ s. (than < s.version) × (s.version ≡ self.new.kept.version) × (s.pressures ≡ take (resources_of self.old) self.new.kept.pressures))) }
+        ensures number { IfOk result (λ o. IfSome o (λ s. s.version < 2 ^ 63)) }
+        ensures len { IfOk result (λ o. IfSome o (λ s. length s.pressures ≡ resources_of self.old)) }
+        ensures actions { IfOk result (λ o. IfSome o (λ s. s.actions ≡ actions_at (triggers_of self.old) s.pressures)) }
+        ensures published { IsLast self.new.kept (seen self.new) ⊎ IsSameEntry self.old.kept self.new.kept }
+        ensures rising { self.old.kept.version ≤ self.new.kept.version }
+        ensures look { (looks self.new ≡ looked (looks self.old) (looks self.new).found) × ((looks self.old).found ≤ (looks self.new).found) }
+        ensures fresh { OnOk result ((looks self.new).found ≤ self.new.kept.version) }
+        ensures seen { StartsWith (seen self.new) (seen self.old) }
+        ensures same { (self.new.board ≡ self.old.board) × (self.new.seat.table_id ≡ self.old.seat.table_id) }
+        ensures err { OnErr result ((self.new.kept ≡ self.old.kept) × (self.new.eye ≡ self.old.eye)) }
+    {
+        let found = look(&self.board, &mut self.seat);
+        if found <= self.kept.version && self.kept.version <= than {
+            return Ok(None);
+        }
+        let room = self.room(alloc)?;
+        self.renew(rt, found);
+        if self.kept.version <= than {
+            return Ok(None);
+        }
+        Ok(Some(self.snapshot(room)))
     }
 
     /// Learns what the publisher told: from now on it answers nothing older. Takes no memory.

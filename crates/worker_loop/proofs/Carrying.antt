@@ -7,16 +7,17 @@ use Rattle.flow_notes.specs.declared.events.Job.TheVariants as job
 use Rattle.flow_notes.specs.Job.{IsJob}
 use Rattle.post_queue.specs.Posts.{IsAllowed, IsAllowedJob}
 use Rattle.post_queue.specs.declared.posts.Post.{Post}
-use Rattle.std.proofs.Common.{All, ap, append_assoc, arith, inl, inr, refl, subst, sym, ◌∙◌}
+use Rattle.std.proofs.Common.{All, ap, append_assoc, arith, refl, subst, sym, ◌∙◌}
 use Rattle.std.proofs.lemmas.Bool.Decides.{nat_tests}
 use Rattle.std.proofs.lemmas.List.{append-nil, map-append}
 use Rattle.std.proofs.lemmas.List.Elements.{All-head, All-tail}
-use Rattle.std.specs.Prelude.{Bool, Err, List, None, Ok, Option, Result, Some, [], false, if◌then◌else◌, length, map, nat_lt, true, ℕ, ◌++◌, ◌<◌, ◌∷◌, ◌≡◌, ◌≤◌}
+use Rattle.shared_state.specs.declared.follower.Snapshot.{Snapshot}
+use Rattle.std.specs.Prelude.{Bool, IfSome, List, MatchOption, None, Option, Result, Some, [], false, if◌then◌else◌, length, map, nat_lt, take, true, ℕ, ◌++◌, ◌<◌, ◌^◌, ◌∷◌, ◌≡◌, ◌≤◌}
 use Rattle.worker_core.specs.Sessions.{RestsWire, version_of}
 use Rattle.worker_core.specs.declared.worker.Kind.{Kind}
 use Rattle.worker_loop.proofs.Becoming.{becomes_append}
-use Rattle.worker_loop.specs.Carrying.{CarriedAll, Nothing, One, events_in, obeyed_event, post_event}
-use Rattle.worker_loop.specs.Clauses.{Carries, CarriesAs, RunsAs, RunsCut}
+use Rattle.worker_loop.specs.Carrying.{CarriedAll, Nothing, One, events_in, obeyed_event, obeys, post_event, pressures_in}
+use Rattle.worker_loop.specs.Clauses.{Carries, CarriesAs, RunsCut}
 use Rattle.worker_loop.specs.Cutting.{CutsOne}
 use Rattle.worker_loop.specs.Did.{Did}
 use Rattle.worker_loop.specs.Places.{Becomes, Place}
@@ -96,12 +97,13 @@ all_ran names posts rest k0 k v0 v e so = record {
 }
 
 -- ---- what is published
-abbrev obeyed_by : Bool → Event → Option Event
-obeyed_by b e = if b then Some e else None
+none_by : (b : Bool) (e : Event) → b ≡ false → [] ≡ events_in (if b then Some e else None)
+none_by true e isnt = cc
+none_by false e isnt = refl
 
-older_by : (names : List (List ℕ)) (b : Bool) (e : Event) (k : Kind) (v : Place) → b ≡ false → RestsWire k → Carries names (events_in (obeyed_by b e)) k v k v
-older_by names true e k v isnt rests = cc
-older_by names false e k v isnt rests = record { did = []; all = Nothing k; becomes = refl; rests = rests }
+one_by : (b : Bool) (e : Event) → b ≡ true → e ∷ [] ≡ events_in (if b then Some e else None)
+one_by true e is = refl
+one_by false e is = cc
 
 not_newer : (n m : ℕ) → m ≤ n → nat_lt n m ≡ false
 not_newer n m less = grind (arith, nat_tests)
@@ -109,16 +111,33 @@ not_newer n m less = grind (arith, nat_tests)
 is_newer : (n m : ℕ) → n < m → nat_lt n m ≡ true
 is_newer n m less = grind (arith, nat_tests)
 
--- it isn't newer
-pub not_obeyed : (names : List (List ℕ)) (k : Kind) (v : Place) (version obeyed : ℕ) (pressures : List ℕ) → RestsWire k → obeyed ≡ version_of k → version ≤ obeyed → CarriesAs names (events_in (obeyed_event k version pressures)) k v (Ok tt) k v
-not_obeyed names k v version obeyed pressures rests is less =
-    older_by names (nat_lt (version_of k) version) (event.Obey version pressures) k v (not_newer (version_of k) version (omega (arith, is, less))) rests
+-- what is answered of a version where that is newer than what was obeyed: so many of all its pressures
+abbrev IsNewer : ℕ → ℕ → ℕ → List ℕ → Option Snapshot → Type 0
+IsNewer version obeyed n all newer = MatchOption newer (version ≤ obeyed) (λ s. (obeyed < s.version) × (s.version ≡ version) × (s.pressures ≡ take n all))
 
-newer_by : (names : List (List ℕ)) (b : Bool) (e : Event) (k k' : Kind) (v w : Place) (r : Result (Unit {0}) End) → b ≡ true → CarriesAs names (e ∷ []) k v r k' w → CarriesAs names (events_in (obeyed_by b e)) k v r k' w
-newer_by names true e k k' v w r holds_so carries = carries
-newer_by names false e k k' v w r holds_so carries = cc
+obeys_as : (k : Kind) (version obeyed n : ℕ) (all : List ℕ) (newer : Option Snapshot) → obeyed ≡ version_of k → IsNewer version obeyed n all newer → obeys newer ≡ events_in (obeyed_event k version (pressures_in newer))
+obeys_as k version obeyed n all None is less = none_by (nat_lt (version_of k) version) (event.Obey version []) (not_newer (version_of k) version (omega (arith, is, less)))
+obeys_as k version obeyed n all (Some s) is (more, same, front) =
+    ap (λ (v : ℕ). event.Obey v s.pressures ∷ []) same ∙ one_by (nat_lt (version_of k) version) (event.Obey version s.pressures) (is_newer (version_of k) version (omega (arith, is, more, same)))
 
-pub is_obeyed : (names : List (List ℕ)) (k k' : Kind) (v w : Place) (version obeyed : ℕ) (pressures : List ℕ) (r : Result (Unit {0}) End) → obeyed ≡ version_of k → obeyed < version
-    → CarriesAs names (event.Obey version pressures ∷ []) k v r k' w → CarriesAs names (events_in (obeyed_event k version pressures)) k v r k' w
-is_obeyed names k k' v w version obeyed pressures r is less carries =
-    newer_by names (nat_lt (version_of k) version) (event.Obey version pressures) k k' v w r (is_newer (version_of k) version (omega (arith, is, less))) carries
+pub obeyed_as : (names : List (List ℕ)) (k k' : Kind) (v w : Place) (version obeyed n : ℕ) (all : List ℕ) (newer : Option Snapshot) → obeyed ≡ version_of k → IsNewer version obeyed n all newer
+    → Carries names (obeys newer) k v k' w → Carries names (events_in (obeyed_event k version (pressures_in newer))) k v k' w
+obeyed_as names k k' v w version obeyed n all newer is answer carries = subst (λ (es : List Event). Carries names es k v k' w) (obeys_as k version obeyed n all newer is answer) carries
+
+pub front_of_kept : (version obeyed n : ℕ) (all : List ℕ) (newer : Option Snapshot) → IsNewer version obeyed n all newer → IfSome newer (λ s. length s.pressures ≡ n)
+    → pressures_in newer ≡ take (length (pressures_in newer)) all
+front_of_kept version obeyed n all None answer len = refl
+front_of_kept version obeyed n all (Some s) (more, same, front) len = front ∙ ap (λ (m : ℕ). take m all) (sym len)
+
+-- it answered nothing, and nothing is obeyed
+pub none_obeyed : (names : List (List ℕ)) (k : Kind) (v : Place) (newer : Option Snapshot) → newer ≡ None → RestsWire k → Carries names (obeys newer) k v k v
+none_obeyed names k v newer is rests =
+    subst (λ (o : Option Snapshot). Carries names (obeys o) k v k v) (sym is) (record { did = []; all = Nothing k; becomes = refl; rests = rests })
+
+-- it answered this
+module _ (newer : Option Snapshot) (s : Snapshot) (is : newer ≡ Some s) where
+  pub is_numbered : IfSome newer (λ x. x.version < 2 ^ 63) → s.version < 2 ^ 63
+  is_numbered may = subst (λ (o : Option Snapshot). IfSome o (λ x. x.version < 2 ^ 63)) is may
+
+  pub one_obeyed : (names : List (List ℕ)) (k k' : Kind) (v w : Place) (r : Result (Unit {0}) End) → CarriesAs names (event.Obey s.version s.pressures ∷ []) k v r k' w → CarriesAs names (obeys newer) k v r k' w
+  one_obeyed names k k' v w r carries = subst (λ (o : Option Snapshot). CarriesAs names (obeys o) k v r k' w) (sym is) carries

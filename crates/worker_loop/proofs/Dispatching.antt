@@ -1,20 +1,21 @@
 -- An event whose line is written, and which is dispatched.
+use Rattle.flow_notes.specs.Event.{IsEvent}
 use Rattle.flow_notes.specs.declared.events.Event.{Event}
+use Rattle.flow_notes.specs.declared.events.Event.TheVariants as event
 use Rattle.flow_notes.specs.declared.notes.Note.{Note}
-use Rattle.session_run.specs.Ends.{AppendsFront}
 use Rattle.shared_state.specs.declared.permit_rule.PermitView.{PermitView}
 use Rattle.std.proofs.Common.{ap, inl, inr, refl, subst, sym, ◌∙◌, ◌⊎◌}
 use Rattle.std.specs.Io.KnownBytes.{Appends}
-use Rattle.std.specs.Prelude.{Err, List, None, Option, [], filter, ℕ, ◌++◌, ◌∷◌, ◌≡◌}
+use Rattle.std.specs.Prelude.{Err, List, None, Option, Result, [], filter, ℕ, ◌++◌, ◌<◌, ◌^◌, ◌∷◌, ◌≡◌}
 use Rattle.worker_core.specs.Sessions.{CarriesOut, MayTake, RestsWire}
 use Rattle.worker_core.specs.declared.worker.Kind.{Kind}
 use Rattle.worker_core.specs.declared.worker.Kind.TheVariants as kind
 use Rattle.worker_loop.proofs.Becoming.{becomes_append}
 use Rattle.worker_loop.specs.Carrying.{Nothing, One, carried, is_done, named_in}
-use Rattle.worker_loop.specs.Clauses.{Carries, DispatchesAs, EndsAll, KeepsLine, ends_in}
+use Rattle.worker_loop.specs.Clauses.{Carries, DispatchesAs, EndsAll, KeepsLine, KeepsText, ends_in}
 use Rattle.worker_loop.specs.Cutting.{CutsOne, CutsShort}
 use Rattle.worker_loop.specs.Did.{Dispatched, Noted}
-use Rattle.worker_loop.specs.Places.{Becomes, Changes, Place, event_line, place_of}
+use Rattle.worker_loop.specs.Places.{Becomes, Changes, Place, event_line, place_of, tick_line}
 use Rattle.worker_loop.specs.declared.turns.Ended.{Ended as End}
 use Rattle.worker_loop.specs.declared.turns.Ended.TheVariants as ended
 use Rattle.worker_parts.specs.Journals.{with_notes}
@@ -32,11 +33,15 @@ rests_after (kind.Wire old) before e (kind.Plain new) after rests carries = absu
 rests_after (kind.Plain old) before e new after rests carries = absurd rests
 
 -- ---- its line
-pub front_of : (line text : List ℕ) (old new : Option (List ℕ)) → text ≡ line → AppendsFront old new text → AppendsFront old new line
-front_of line text old new e front = subst (λ (t : List ℕ). AppendsFront old new t) e front
+pub keeps_as : (line text : List ℕ) (old new : Option (List ℕ)) (r : Result (Unit {0}) End) → text ≡ line → KeepsText text old r new → KeepsText line old r new
+keeps_as line text old new r e keeps = subst (λ (t : List ℕ). KeepsText t old r new) e keeps
 
-pub whole_of : (line text : List ℕ) (old new : Option (List ℕ)) → text ≡ line → Appends old new text → Appends old new line
-whole_of line text old new e whole = subst (λ (t : List ℕ). Appends old new t) e whole
+-- that of a tick
+pub tick_as : (names : List (List ℕ)) (e : Event) (now : ℕ) → e ≡ event.Tick now → tick_line now ≡ event_line names e
+tick_as names e now is = sym (ap (λ (x : Event). event_line names x) is)
+
+pub tick_moment : (names : List (List ℕ)) (e : Event) (now : ℕ) → e ≡ event.Tick now → IsEvent names e → now < 2 ^ 60
+tick_moment names e now is may = subst (λ (x : Event). IsEvent names x) is may
 
 -- no line is kept
 pub unkept : (line : List ℕ) (told : Option (List ℕ)) → told ≡ None → Appends told told line

@@ -164,9 +164,6 @@ drained_as lent posts before after e ran = ran ∙ ap (λ (ps : List Post). befo
 pub allowed_as : (lent posts : List Post) → lent ≡ posts → All IsAllowed posts → All IsAllowed lent
 allowed_as lent posts e all = subst (λ (ps : List Post). All IsAllowed ps) (sym e) all
 
-pub front_of_kept : (ps xs : List ℕ) (n : ℕ) → ps ≡ take n xs → length ps ≡ n → ps ≡ take (length ps) xs
-front_of_kept ps xs n is len = is ∙ ap (λ (m : ℕ). take m xs) (sym len)
-
 pub asks_once : (old new : Sides) (moment : ℕ) (posts : List Post) (version : ℕ) (pressures : List ℕ) → TellsLast old.moments moment new.moments → new.pass.ran ≡ old.pass.ran ++ posts → new.pass.drains ≡ old.pass.drains + 1
     → new.looks ≡ looked old.looks new.looks.found → version ≡ new.kept.version → pressures ≡ take (length pressures) new.kept.pressures → old.kept.version ≤ new.kept.version → new.looks.found ≤ version → Asks old moment posts version pressures new
 asks_once old new moment posts version pressures clock ran drains look newest front rising fresh =

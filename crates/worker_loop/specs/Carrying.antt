@@ -4,6 +4,7 @@ use Rattle.flow_notes.specs.declared.events.Event.TheVariants as event
 use Rattle.flow_notes.specs.declared.notes.Note.{Note}
 use Rattle.flow_notes.specs.declared.notes.Note.TheVariants as note
 use Rattle.post_queue.specs.declared.posts.Post.{Post}
+use Rattle.shared_state.specs.declared.follower.Snapshot.{Snapshot}
 use Rattle.std.specs.Prelude.{Bool, List, None, Option, Some, [], filter, if◌then◌else◌, length, map, nat_eq, nat_lt, ℕ, ◌&&◌, ◌++◌, ◌∷◌, ◌≡◌}
 use Rattle.worker_core.specs.Fronts.{octets_at}
 use Rattle.worker_core.specs.Sessions.{CarriesOut, is_closing, version_of}
@@ -58,3 +59,13 @@ obeyed_event k version pressures = if nat_lt (version_of k) version then Some (e
 -- what a connection took is an event of room
 abbrev pub room_event : ℕ → ℕ → Option Event
 room_event c n = if nat_lt 0 n then Some (event.Room c n) else None
+
+-- what a follower answered is obeyed, if it answered anything newer
+abbrev pub obeys : Option Snapshot → List Event
+obeys None = []
+obeys (Some s) = event.Obey s.version s.pressures ∷ []
+
+-- the pressures that it answered, if any
+abbrev pub pressures_in : Option Snapshot → List ℕ
+pressures_in None = []
+pressures_in (Some s) = s.pressures

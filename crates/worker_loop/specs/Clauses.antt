@@ -24,12 +24,16 @@ use Rattle.worker_ports.specs.declared.wires.Wired.{Wired}
 use Rattle.worker_ports.specs.declared.wires.Wired.TheVariants as wired
 
 -- ---- one event
--- its line was written, or a front of it, or nothing
+-- a line was written, or a front of it, or nothing
+abbrev pub KeepsText : List ℕ → Option (List ℕ) → Result (Unit {0}) End → Option (List ℕ) → Type 0
+KeepsText line old (Ok u) new = Appends old new line
+KeepsText line old (Err ended.JournalFault) new = AppendsFront old new line
+KeepsText line old (Err ended.Memory) new = new ≡ old
+KeepsText line old (Err end) new = ⊥
+
+-- that of the event
 abbrev pub KeepsLine : List (List ℕ) → Event → Option (List ℕ) → Result (Unit {0}) End → Option (List ℕ) → Type 0
-KeepsLine names e old (Ok u) new = Appends old new (event_line names e)
-KeepsLine names e old (Err ended.JournalFault) new = AppendsFront old new (event_line names e)
-KeepsLine names e old (Err ended.Memory) new = new ≡ old
-KeepsLine names e old (Err end) new = ⊥
+KeepsLine names e = KeepsText (event_line names e)
 
 -- its line was written and it was dispatched
 abbrev pub DispatchesAs : List (List ℕ) → Event → Kind → Option (List ℕ) → Result (Unit {0}) End → Kind → List Note → Option (List ℕ) → Type 0

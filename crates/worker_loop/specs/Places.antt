@@ -2,6 +2,7 @@
 use Rattle.flow_notes.specs.Event.{event_spelling}
 use Rattle.flow_notes.specs.Line.{newline}
 use Rattle.flow_notes.specs.declared.events.Event.{Event}
+use Rattle.flow_notes.specs.declared.events.Event.TheVariants as event
 use Rattle.flow_notes.specs.declared.notes.Note.{Note}
 use Rattle.number_set.specs.NumberSet.{marked}
 use Rattle.shared_state.specs.PermitRule.{granted}
@@ -29,6 +30,10 @@ place_of text told seen held seat = record { text = text; told = told; seen = se
 -- the line of an event, with its newline
 abbrev pub event_line : List (List ℕ) → Event → List ℕ
 event_line names e = event_spelling names e ++ newline
+
+-- that of a tick, which names no cluster
+abbrev pub tick_line : ℕ → List ℕ
+tick_line now = event_line [] (event.Tick now)
 
 -- the permit of a connection is left, if it has one
 abbrev pub without_permit : ℕ → Place → Place

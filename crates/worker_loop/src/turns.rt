@@ -5,9 +5,9 @@ ghost use Rattle.post_queue.specs.Pass as hands;
 ghost use Rattle.post_queue.specs.Posts.{IsAllowed};
 ghost use Rattle.shared_state.specs.Following.{looks};
 ghost use Rattle.shared_state.specs.PermitSeats.{view};
-ghost use Rattle.std.specs.Prelude.{◌<◌, ◌^◌, ◌∷◌, ◌≡◌, ◌≢◌, All, [], length};
+ghost use Rattle.std.specs.Prelude.{◌<◌, ◌^◌, ◌∷◌, ◌≡◌, ◌≢◌, All, IfSome, [], length};
 ghost use Rattle.worker_core.specs.Sessions.{RestsWire};
-ghost use Rattle.worker_loop.specs.Carrying.{events_in, obeyed_event, post_event};
+ghost use Rattle.worker_loop.specs.Carrying.{obeys, post_event};
 ghost use Rattle.worker_loop.specs.Clauses.{CarriesAs, RunsAs, TurnsAs};
 ghost use Rattle.worker_loop.specs.Keeping.{AreUpTo, Holds, Keeps, Rises};
 ghost use Rattle.worker_loop.specs.Parts.{AtWires, InTurns, InWorld, Lines, Tape};
@@ -55,8 +55,8 @@ impl From<NoMemory> for Ended {
 }
 
 /// Runs so many turns. In each the gate is passed, with the number of the turn; the clock is asked, and its moment dispatched; the
-/// box is drained once, and each post dispatched; the follower is asked once, and what it answers is obeyed where it is newer
-/// than what the core obeyed last; the connections are asked once what came, and that is dispatched; then, by their numbers,
+/// box is drained once, and each post dispatched; the follower is asked once for what is newer than what the core obeyed last, and
+/// that is obeyed; the connections are asked once what came, and that is dispatched; then, by their numbers,
 /// each connection for which octets wait is offered a front of them once, and what it took is dispatched as room. An event's
 /// line is written to the journal before the event is dispatched, and its notes are handed over once it is.
 ///
@@ -164,12 +164,12 @@ fn take_turn<R: Wait, W: Wires, C: Clock, J: Journal, D: CarryOut>(
         carry, core, permits, seat, held, wires, journal, names, pad, drained,
     )?;
     drop(list);
-    let snapshot = match follower.current(rt, alloc) {
-        Ok(snapshot) => snapshot,
+    let newer = match follower.newer(rt, alloc, core.obeyed()) {
+        Ok(newer) => newer,
         Err(NoMemory) => return Err(Ended::Memory),
     };
     obey(
-        carry, core, permits, seat, held, wires, journal, names, pad, snapshot,
+        carry, core, permits, seat, held, wires, journal, names, pad, newer,
     )?;
     let stops = take_next(carry, core, permits, seat, held, wires, journal, names, pad)?;
     offer_all(carry, core, permits, seat, held, wires, journal, names, pad)?;
@@ -238,7 +238,7 @@ fn run_post<W: Wires, J: Journal, D: CarryOut>(
     )
 }
 
-// Dispatches what the follower answered, where that is newer than what was obeyed last.
+// Dispatches what the follower answered, if that is anything newer.
 #[tactic(none)]
 fn obey<W: Wires, J: Journal, D: CarryOut>(
     carry: &D,
@@ -250,18 +250,18 @@ fn obey<W: Wires, J: Journal, D: CarryOut>(
     journal: &mut J,
     names: &Names,
     pad: &mut Pad,
-    snapshot: Snapshot,
+    newer: Option<Snapshot>,
 ) -> Result<(), Ended>
     requires core { RestsWire core.old.kind }
     requires holds { Holds permits.now seat.old held.old }
-    requires version { snapshot.version < 2 ^ 63 }
-    ensures carries { CarriesAs names.now (events_in (obeyed_event core.old.kind snapshot.version snapshot.pressures)) core.old.kind (place_of (J.contents journal.old) (J.told journal.old) (W.seen wires.old) held.old (view seat.old)) result core.new.kind (place_of (J.contents journal.new) (J.told journal.new) (W.seen wires.new) held.new (view seat.new)) }
+    requires version { IfSome newer (λ s. s.version < 2 ^ 63) }
+    ensures carries { CarriesAs names.now (obeys newer) core.old.kind (place_of (J.contents journal.old) (J.told journal.old) (W.seen wires.old) held.old (view seat.old)) result core.new.kind (place_of (J.contents journal.new) (J.told journal.new) (W.seen wires.new) held.new (view seat.new)) }
     ensures keeps { Keeps permits.now (W.seen wires.old) held.old (view seat.old) (W.seen wires.new) held.new seat.new }
     ensures rises { Rises result (W.faults wires.old) (W.faults wires.new) (J.faults journal.old) (J.faults journal.new) }
 {
-    if snapshot.version <= core.obeyed() {
+    let Some(snapshot) = newer else {
         return Ok(());
-    }
+    };
     let event = Event::Obey {
         version: snapshot.version,
         pressures: snapshot.pressures,
