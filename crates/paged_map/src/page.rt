@@ -180,6 +180,19 @@ impl<V> Page<V> {
         }
         old
     }
+
+    /// A slot that has a value has none from now on: the value is dropped where it lies, and isn't moved out first.
+    #[inline(always)]
+    pub(crate) fn discard(&mut self, slot: usize)
+    where
+        V: Drop,
+        requires slot { slot < width }
+        requires there { is_some (slice_index_or self.old.1 slot None) ≡ true }
+        ensures { self.new ≡ (self.old.0, slice_set self.old.1 slot None) }
+    {
+        self.slots[slot] = None;
+        self.used -= 1;
+    }
 }
 
 fn blank_slots<V: Drop>(alloc: Global) -> Result<Vec<Option<V>>, NoMemory>
