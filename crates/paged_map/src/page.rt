@@ -148,11 +148,22 @@ impl<V> Page<V> {
         ensures new { self.new ≡ (self.old.0, slice_set self.old.1 slot (Some value)) }
     {
         if self.has(slot) {
-            drop(self.put(slot, value));
+            self.renew(slot, value);
             return true;
         }
         self.fill(slot, value);
         false
+    }
+
+    // The slot has this value from now on, and what it had is dropped. Few have a value before, so it isn't inlined.
+    #[inline(never)]
+    fn renew(&mut self, slot: usize, value: V)
+    where
+        V: Drop,
+        requires { slot < width }
+        ensures { self.new ≡ (self.old.0, slice_set self.old.1 slot (Some value)) }
+    {
+        drop(self.put(slot, value));
     }
 
     // A slot without a value has this one from now on.
