@@ -6,12 +6,13 @@ use Rattle.flow_gate.specs.Ids.{same_flow}
 use Rattle.flow_gate.specs.Named.{Updates, WritesThrough, both, named, request_of, response_of}
 use Rattle.flow_gate.specs.Parts.{flow_at}
 use Rattle.flow_rules.specs.declared.ids.FlowId.{FlowId}
-use Rattle.std.proofs.Common.{ap, refl, subst, sym, ◌∙◌}
+use Rattle.std.proofs.Common.{ap, arith, refl, subst, sym, ◌∙◌}
+use Rattle.std.proofs.lemmas.List.{length-append, length-map}
 use Rattle.std.specs.BTreeMap.{is_at}
 use Rattle.std.specs.Cmp.{IsEquivalence}
 use Rattle.std.specs.Map.{lookup, set_value}
 use Rattle.std.specs.Ordering.{nat_cmp}
-use Rattle.std.specs.Prelude.{Bool, List, Option, cond, false, true, ℕ, ◌&&◌, ◌++◌, ◌==◌, ◌≡◌}
+use Rattle.std.specs.Prelude.{Bool, List, Option, cond, false, length, true, ℕ, ◌&&◌, ◌+◌, ◌++◌, ◌==◌, ◌≡◌}
 
 pub same_flow_laws : IsEquivalence same_flow
 same_flow_laws = record { refl = same_flow-refl; symm = same_flow-comm; congr = λ f g h here. ap (λ k. same_flow k h) (same_flow_exact f g here) }
@@ -55,6 +56,14 @@ module _ {X : Type 0} where
   -- the number has this or nothing, and each other one what it had
   abbrev pub NumberChanges : ℕ → Option X → List (ℕ × X) → List (ℕ × X) → Type 0
   NumberChanges n w old new = (q : ℕ) → number_at q new ≡ cond (is_at (nat_cmp n) q) w (number_at q old)
+
+  pub length-both : (xs ys : List (ℕ × X)) → length (both xs ys) ≡ length xs + length ys
+  length-both xs ys = omega (
+    arith,
+    length-append (named request_of xs) (named response_of ys),
+    length-map xs (λ (e : ℕ × X). (request_of e.0, e.1)),
+    length-map ys (λ (e : ℕ × X). (response_of e.0, e.1)),
+  )
 
   request-at : (n : ℕ) (xs ys : List (ℕ × X)) → flow_at (both xs ys) (request_of n) ≡ number_at n xs
   request-at n xs ys =

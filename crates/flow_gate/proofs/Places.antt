@@ -17,7 +17,7 @@ use Rattle.std.specs.List.{AllByRecursion}
 use Rattle.std.specs.List.Sorted.{IsStrictlySortedBy}
 use Rattle.std.specs.Map.{keys_of, remove_entry, values_of}
 use Rattle.std.specs.Ordering.{nat_cmp}
-use Rattle.std.specs.Prelude.{Bool, List, None, Some, [], cond, drop, false, filter, is_some, nat_eq, nat_lt, not, slice_get, true, ℕ, ◌++◌, ◌+◌, ◌<◌, ◌∷◌, ◌≡◌, ◌≤◌}
+use Rattle.std.specs.Prelude.{Bool, List, None, Some, [], cond, drop, false, filter, is_some, length, nat_eq, nat_lt, not, slice_get, true, ℕ, ◌++◌, ◌+◌, ◌<◌, ◌∷◌, ◌≡◌, ◌≤◌}
 use Rattle.std.specs.declared.cmp.Ordering.TheVariants.{Greater, Less}
 
 pub between_yes : (from to q : ℕ) → from ≤ q → q < to → is_between from to q ≡ true
@@ -245,6 +245,15 @@ no_first [] is = refl
 no_first (e ∷ es) is = absurd (none-some e is)
 
 -- ---- what a buffer's line is after one left
+-- the only one in line
+pub leaves_none : (place : ℕ) (flow : FlowId) (line : Places) → length line ≡ 1 → at_place place line ≡ Some flow → [] ≡ remove_entry (is_at (nat_cmp place)) line
+leaves_none place flow [] one at = absurd (omega (arith, one))
+leaves_none place flow (e ∷ []) one at = elim (cases_Bool (nat_eq place e.0)) [
+  | inl here ↦ sym (ap (λ b. cond b [] (e ∷ [])) (eq_by_place place e.0 ∙ here))
+  | inr past ↦ absurd (none-some flow (ap (λ b. cond b (Some e.1) None) (sym past) ∙ at))
+]
+leaves_none place flow (e ∷ d ∷ line) one at = absurd (omega (arith, one))
+
 pub line_left : (told drained place : ℕ) (flow : FlowId) (above : Bool) (line new : Places) → new ≡ remove_entry (is_at (nat_cmp place)) line →
     at_place place line ≡ Some flow → times flow (values_of line) ≤ 1 →
     ◌≡◌ {A = Line} (record { above = above; watchers = new; pending = between told drained new }) (left flow (record { above = above; watchers = line; pending = between told drained line }))

@@ -1,16 +1,18 @@
 // The gates of the buffers that are known.
-ghost use Rattle.flow_gate.specs.Ids.{same_buffer};
+ghost use Rattle.flow_gate.specs.Ids.{same_buffer, same_flow};
 ghost use Rattle.flow_gate.specs.Lends.{LendsBuffer};
 ghost use Rattle.flow_gate.specs.Named.{Updates};
-ghost use Rattle.flow_gate.specs.Parts.{bound_after, buffer_at, is_after};
+ghost use Rattle.flow_gate.specs.Parts.{bound_after, buffer_at, flow_at, is_after, kept};
 ghost use Rattle.flow_rules.specs.declared.ids.BufferId.{BufferId};
+ghost use Rattle.flow_rules.specs.declared.ids.FlowId.{FlowId};
 ghost use Rattle.flow_gate.specs.Parts.{stage_of};
 ghost use Rattle.std.specs.Borrow.{sem};
 ghost use Rattle.std.specs.Option.{option_copied, option_copied_mut};
-ghost use Rattle.std.specs.Prelude.{◌≡◌, ◌<◌, [], ℕ, IfNone, IfSome, None, OnErr, OnOk, Some, true};
+ghost use Rattle.std.specs.Prelude.{◌≡◌, ◌<◌, [], ℕ, IfNone, IfSome, None, OnErr, OnOk, Some, if◌then◌else◌, true};
 
 use crate::flow_map::FlowMap;
 use crate::gate::Gate;
+use crate::spares::Spares;
 use flow_rules::{BufferId, FlowId};
 use io_ports::NoMemory;
 use paged_map::PagedMap;
@@ -110,6 +112,23 @@ impl Buffers {
         }
     }
 
+    /// The receive buffer of a flow that nobody watches is no longer known.
+    pub(crate) fn close_recv(&mut self, flow: FlowId, spares: &mut Spares)
+        ensures { (b : BufferId) → buffer_at self.new b ≡ (if same_buffer (BufferId.Recv flow) b then kept (buffer_at self.old b) else buffer_at self.old b) }
+    {
+        // In most sessions no flow has one.
+        if !self.recvs.is_empty() {
+            close_unwatched(&mut self.recvs, spares, flow);
+        }
+    }
+
+    /// The send buffer of a flow that nobody watches is no longer known.
+    pub(crate) fn close_send(&mut self, flow: FlowId, spares: &mut Spares)
+        ensures { (b : BufferId) → buffer_at self.new b ≡ (if same_buffer (BufferId.Send flow) b then kept (buffer_at self.old b) else buffer_at self.old b) }
+    {
+        close_unwatched(&mut self.sends, spares, flow);
+    }
+
     /// The first stage of a flow that is known, or the first one after another.
     pub(crate) fn stage_after(&self, flow: FlowId, after: Option<u32>) -> Option<u32>
         ensures later { IfSome result (λ i. is_after after i ≡ true) }
@@ -124,6 +143,18 @@ impl Buffers {
             .range((bound_after(flow, after), Bound::Unbounded))
             .next()?;
         stage_of(flow, stage)
+    }
+}
+
+// The gate of a flow goes where nobody watches, and its memory is kept.
+fn close_unwatched(gates: &mut FlowMap<Gate>, spares: &mut Spares, flow: FlowId)
+    ensures { (f : FlowId) → flow_at gates.new f ≡ (if same_flow flow f then kept (flow_at gates.old f) else flow_at gates.old f) }
+{
+    if let Some(gate) = gates.get_mut(flow) {
+        if !gate.is_watched() {
+            spares.keep_memory(gate);
+            gates.discard(flow);
+        }
     }
 }
 

@@ -5,7 +5,7 @@ ghost use Rattle.flow_gate.specs.Named.{Updates};
 ghost use Rattle.flow_gate.specs.Parts.{flow_at};
 ghost use Rattle.std.specs.Borrow.{sem};
 ghost use Rattle.std.specs.Option.{option_copied, option_copied_mut};
-ghost use Rattle.std.specs.Prelude.{◌≡◌, [], None, OnErr, OnOk, Some};
+ghost use Rattle.std.specs.Prelude.{◌≡◌, ◌==◌, [], None, OnErr, OnOk, Some, length};
 
 use flow_rules::FlowId;
 use io_ports::NoMemory;
@@ -40,6 +40,14 @@ impl<V> FlowMap<V> {
             requests: PagedMap::new(alloc),
             responses: PagedMap::new(alloc),
         }
+    }
+
+    /// Whether no flow has a value.
+    #[inline(always)]
+    pub(crate) fn is_empty(&self) -> bool
+        ensures { result ≡ (length self.now == 0) }
+    {
+        self.requests.len() + self.responses.len() == 0
     }
 
     /// What a flow has.
@@ -92,6 +100,19 @@ impl<V> FlowMap<V> {
             self.responses.remove(&flow.exchange)
         } else {
             self.requests.remove(&flow.exchange)
+        }
+    }
+
+    /// From now on the flow has no value. What it had is dropped where it lies. Takes no memory.
+    pub(crate) fn discard(&mut self, flow: FlowId)
+    where
+        V: Drop,
+        ensures { Updates same_flow flow None self.old self.new }
+    {
+        if flow.back {
+            self.responses.discard(&flow.exchange);
+        } else {
+            self.requests.discard(&flow.exchange);
         }
     }
 }

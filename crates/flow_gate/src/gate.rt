@@ -155,6 +155,12 @@ impl Gate {
         ensures { (flow : FlowId) → at_place place self.old.watchers ≡ Some flow → times flow (values_of self.old.watchers) ≤ 1 → self.new ≡ left flow self.old }
     {
         self.row.clear();
+        if self.standing == 1 {
+            // It stands alone, so it isn't looked for.
+            self.line.clear();
+            self.standing = 0;
+            return;
+        }
         if leave(self.line.as_mut_slice(), place) {
             self.standing -= 1;
             close_up(&mut self.line, self.standing);

@@ -180,7 +180,7 @@ impl Gates {
         ensures sound { IsSound self.new }
     {
         self.spares.ready()?;
-        let gate = self.spares.begun(self.alloc);
+        let gate = self.spares.begun();
         self.buffers.put(buffer, gate)?;
         Ok(())
     }
@@ -271,14 +271,15 @@ impl Gates {
         ensures forgets { Forgets flow self.old self.new }
         ensures sound { IsSound self.new }
     {
-        let Some(watcher) = self.flows.remove(flow) else {
+        let Some(watcher) = self.flows.get(flow) else {
             unreachable!()
         };
         leave_each(&mut self.buffers, watcher.watches());
+        self.flows.discard(flow);
         let spares = &mut self.spares;
-        close_unwatched(&mut self.buffers, spares, BufferId::Recv(flow));
+        self.buffers.close_recv(flow, spares);
         close_stages(&mut self.buffers, spares, flow);
-        close_unwatched(&mut self.buffers, spares, BufferId::Send(flow));
+        self.buffers.close_send(flow, spares);
     }
 }
 
@@ -353,9 +354,10 @@ fn leave(buffers: &mut Buffers, watch: Watch)
 fn close_unwatched(buffers: &mut Buffers, spares: &mut Spares, buffer: BufferId)
     ensures { (b : BufferId) → buffer_at buffers.new b ≡ (if same_buffer buffer b then kept (buffer_at buffers.old b) else buffer_at buffers.old b) }
 {
-    if let Some(gate) = buffers.get(buffer) {
+    if let Some(gate) = buffers.get_mut(buffer) {
         if !gate.is_watched() {
-            spares.keep(buffers.remove(buffer));
+            spares.keep_memory(gate);
+            let _ = buffers.remove(buffer);
         }
     }
 }

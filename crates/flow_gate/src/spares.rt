@@ -4,6 +4,7 @@ ghost use Rattle.std.specs.Prelude.{◌≡◌, [], false};
 use crate::gate::Gate;
 use io_ports::NoMemory;
 use std::alloc::Global;
+use std::mem;
 
 /// The most gates that are kept: those of two buffers of each flow that is kept elsewhere.
 const MOST: usize = 512;
@@ -12,6 +13,7 @@ const MOST: usize = 512;
 /// beside the buffers, so that a worker at rest holds little.
 #[derive(Drop)]
 pub(crate) struct Spares {
+    alloc: Global,
     gates: Vec<Gate>,
 }
 
@@ -19,6 +21,7 @@ impl Spares {
     /// None. Takes no memory.
     pub(crate) fn new(alloc: Global) -> Self {
         Spares {
+            alloc,
             gates: Vec::new(alloc),
         }
     }
@@ -32,21 +35,19 @@ impl Spares {
     }
 
     /// A gate as `Gate::new` makes it, with the memory of one that was kept, if there is one.
-    pub(crate) fn begun(&mut self, alloc: Global) -> Gate
+    pub(crate) fn begun(&mut self) -> Gate
         ensures { result ≡ record { above = false; watchers = []; pending = [] } }
     {
         match self.gates.pop() {
             Some(gate) => gate.renewed(),
-            None => Gate::new(alloc),
+            None => Gate::new(self.alloc),
         }
     }
 
-    /// Keeps a gate, if there is one, where there is room for it. Takes no memory.
-    pub(crate) fn keep(&mut self, gate: Option<Gate>) {
-        if let Some(gate) = gate
-            && self.gates.len() < self.gates.capacity()
-        {
-            let _ = self.gates.push(gate);
+    /// Keeps the memory of a gate that goes, where there is room for it; the gate is left without. Takes no memory.
+    pub(crate) fn keep_memory(&mut self, gate: &mut Gate) {
+        if self.gates.len() < self.gates.capacity() {
+            let _ = self.gates.push(mem::replace(gate, Gate::new(self.alloc)));
         }
     }
 }

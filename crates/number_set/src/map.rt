@@ -118,7 +118,9 @@ impl<T: Copy> NumberMap<T> {
         self.search(number)
     }
 
-    // The same without a look at the last: most others that are asked for stand first.
+    // The same without a look at the last: most others that are asked for stand first. It isn't inlined, so that its code is
+    // there once for all that look for a number.
+    #[inline(never)]
     fn search(&self, number: u64) -> Result<usize, usize>
         ensures { MatchResult result (λ i. IsAt number i self.now) (λ i. IsGap number i self.now) }
     {
@@ -172,6 +174,20 @@ fn put_in<T: Copy>(
         items.push_back(item)?;
         return Ok(());
     }
+    put_between(items, place, item)
+}
+
+// The same wherever the place is. Few come before others, so it isn't inlined.
+#[inline(never)]
+fn put_between<T: Copy>(
+    items: &mut VecDeque<(u64, T)>,
+    place: usize,
+    item: (u64, T),
+) -> Result<(), NoMemory>
+    requires { place ≤ length items.old.items }
+    ensures ok { OnOk result (items.new.items ≡ insert items.old.items place item) }
+    ensures err { OnErr result (items.new.items ≡ items.old.items) }
+{
     items.insert(place, item)?;
     Ok(())
 }
@@ -186,5 +202,14 @@ fn take_out<T: Copy>(items: &mut VecDeque<(u64, T)>, place: usize)
         let _ = items.pop_front();
         return;
     }
+    take_between(items, place);
+}
+
+// The same wherever the place is. Few go from between others, so it isn't inlined.
+#[inline(never)]
+fn take_between<T: Copy>(items: &mut VecDeque<(u64, T)>, place: usize)
+    requires { place < length items.old.items }
+    ensures { items.new.items ≡ remove items.old.items place }
+{
     let _ = items.remove(place);
 }

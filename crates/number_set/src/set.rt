@@ -194,6 +194,15 @@ fn place_by(items: &[u64], last: u64, number: u64) -> Result<usize, usize>
     if number > last {
         return Err(items.len());
     }
+    search(items, number)
+}
+
+// The same by halves. It isn't inlined, so that its code is there once for all that look for a number.
+#[inline(never)]
+fn search(items: &[u64], number: u64) -> Result<usize, usize>
+    requires { Rises items.now }
+    ensures { MatchResult result (IsFoundAt items.now number) (IsGapAt items.now number) }
+{
     items.binary_search(&number)
 }
 
@@ -209,6 +218,17 @@ fn put_in(items: &mut Vec<u64>, index: usize, number: u64)
         items.push_reserved(number);
         return;
     }
+    put_between(items, index, number);
+}
+
+// The same wherever the place is. Few come before others, so it isn't inlined.
+#[inline(never)]
+fn put_between(items: &mut Vec<u64>, index: usize, number: u64)
+    requires within { index ≤ length items.old.items }
+    requires room { length items.old.items < vec_capacity items.old }
+    ensures items { items.new.items ≡ insert items.old.items index number }
+    ensures room { vec_capacity items.new ≡ vec_capacity items.old }
+{
     let Ok(()) = items.insert(index, number) else {
         unreachable!()
     };
@@ -225,5 +245,15 @@ fn take_out(items: &mut Vec<u64>, index: usize)
         let _ = items.pop();
         return;
     }
+    take_between(items, index);
+}
+
+// The same wherever the place is. Few go from before others, so it isn't inlined.
+#[inline(never)]
+fn take_between(items: &mut Vec<u64>, index: usize)
+    requires { index < length items.old.items }
+    ensures items { items.new.items ≡ remove items.old.items index }
+    ensures room { vec_capacity items.new ≡ vec_capacity items.old }
+{
     let _ = items.remove(index);
 }

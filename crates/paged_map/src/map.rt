@@ -194,4 +194,26 @@ impl<K: Key, V> PagedMap<K, V> {
         clear(&mut self.pages, place);
         old
     }
+
+    /// Takes out the value of the key, as `remove`, if there is one, and drops it where it lies: it isn't moved out, and no
+    /// answer tells of it. Takes no memory.
+    pub fn discard(&mut self, key: &K)
+    where
+        V: Drop,
+        ensures updates { Updates (K.number key.now) self.old self.new None }
+        ensures entries { self.new.entries ≡ remove_entry (is_at (nat_cmp (K.number key.now))) self.old.entries }
+        ensures len { length self.new.entries + (if is_some (value_at (K.number key.now) self.old) then 1 else 0) ≡ length self.old.entries }
+        ensures ordered { IsSorted self.new.entries }
+    {
+        let number = key.number();
+        let Ok(place) = find(self.pages.as_slice(), number / WIDTH) else {
+            return;
+        };
+        let slot = (number % WIDTH) as usize;
+        if self.pages[place].has(slot) {
+            self.pages[place].discard(slot);
+            self.len -= 1;
+            clear(&mut self.pages, place);
+        }
+    }
 }

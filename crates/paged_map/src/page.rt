@@ -148,11 +148,22 @@ impl<V> Page<V> {
         ensures new { self.new ≡ (self.old.0, slice_set self.old.1 slot (Some value)) }
     {
         if self.has(slot) {
-            drop(self.put(slot, value));
+            self.renew(slot, value);
             return true;
         }
         self.fill(slot, value);
         false
+    }
+
+    // The slot has this value from now on, and what it had is dropped. Few have a value before, so it isn't inlined.
+    #[inline(never)]
+    fn renew(&mut self, slot: usize, value: V)
+    where
+        V: Drop,
+        requires { slot < width }
+        ensures { self.new ≡ (self.old.0, slice_set self.old.1 slot (Some value)) }
+    {
+        drop(self.put(slot, value));
     }
 
     // A slot without a value has this one from now on.
@@ -179,6 +190,19 @@ impl<V> Page<V> {
             self.used -= 1;
         }
         old
+    }
+
+    /// A slot that has a value has none from now on: the value is dropped where it lies, and isn't moved out first.
+    #[inline(always)]
+    pub(crate) fn discard(&mut self, slot: usize)
+    where
+        V: Drop,
+        requires slot { slot < width }
+        requires there { is_some (slice_index_or self.old.1 slot None) ≡ true }
+        ensures { self.new ≡ (self.old.0, slice_set self.old.1 slot None) }
+    {
+        self.slots[slot] = None;
+        self.used -= 1;
     }
 }
 

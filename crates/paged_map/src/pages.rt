@@ -27,7 +27,9 @@ pub(crate) fn find<V>(pages: &[Page<V>], index: u64) -> Result<usize, usize>
     }
 }
 
-// The same without a look at the last: as far from the first page as the index is, or else by halves.
+// The same without a look at the last: as far from the first page as the index is, or else by halves. It isn't inlined, so that a
+// look-up on the last page stays short wherever it stands.
+#[inline(never)]
 fn search<V>(pages: &[Page<V>], index: u64) -> Result<usize, usize>
     requires { IsSorted pages.now }
     ensures { MatchResult result (λ i. IsAt index i pages.now) (λ i. IsGap index i pages.now) }
@@ -117,6 +119,7 @@ fn first_on<V>(pages: &[Page<V>]) -> Option<u64>
 }
 
 /// Where the page with an index stands. One that isn't there comes; the values stay what they are, also without memory.
+#[inline(always)]
 pub(crate) fn page_for<V: Drop>(
     pages: &mut Vec<Page<V>>,
     alloc: Global,
@@ -134,7 +137,9 @@ pub(crate) fn page_for<V: Drop>(
     }
 }
 
-// A page comes, unless it is there: the last one, where it is blank, or else a new one.
+// A page comes, unless it is there: the last one, where it is blank, or else a new one. One value in sixteen needs it, so it isn't
+// inlined.
+#[inline(never)]
 fn add<V: Drop>(pages: &mut Vec<Page<V>>, alloc: Global, index: u64) -> Result<usize, NoMemory>
     requires index { IsIndex index }
     requires ordered { AreOrdered pages.old.items }
@@ -172,13 +177,27 @@ fn blank<V: Drop>(pages: &mut Vec<Page<V>>, alloc: Global, index: u64) -> Result
 }
 
 /// A blank page goes, unless it is the last: its numbers or greater ones come next.
+#[inline(always)]
 pub(crate) fn clear<V: Drop>(pages: &mut Vec<Page<V>>, place: usize)
     requires ordered { AreOrdered pages.old.items }
     requires place { place < length pages.old.items }
     ensures ordered { AreOrdered pages.new.items }
     ensures same { entries_on pages.new.items ≡ entries_on pages.old.items }
 {
-    if pages[place].is_blank() && place < pages.len() - 1 {
+    if place < pages.len() - 1 {
+        drop_blank(pages, place);
+    }
+}
+
+// A page goes if it is blank. It isn't inlined: most values go from the last page.
+#[inline(never)]
+fn drop_blank<V: Drop>(pages: &mut Vec<Page<V>>, place: usize)
+    requires ordered { AreOrdered pages.old.items }
+    requires place { place < length pages.old.items }
+    ensures ordered { AreOrdered pages.new.items }
+    ensures same { entries_on pages.new.items ≡ entries_on pages.old.items }
+{
+    if pages[place].is_blank() {
         drop(pages.remove(place));
     }
 }

@@ -165,7 +165,9 @@ impl Store {
         ensures spare { self.new.spare ≡ self.old.spare + n }
     {
         let of_lent = n.min(self.lent.len());
-        self.lent.drop_front(of_lent, self.alloc);
+        if of_lent > 0 {
+            self.lent.drop_front(of_lent, self.alloc);
+        }
         self.ring.drop_front(n - of_lent);
     }
 }

@@ -1,11 +1,7 @@
-use Rattle.number_set.proofs.Tests.{on_some}
 use Rattle.number_set.proofs.Entries.{first_gone}
 use Rattle.number_set.proofs.map.take_out.Goals as goal
-use Rattle.std.proofs.Common.{ap, arith, sym, ◌∙◌}
+use Rattle.std.proofs.Common.{ap, sym, ◌∙◌}
 use Rattle.std.specs.List.{remove}
 
 pub returns-then-place-eq0 : goal.returns-then-place-eq0
 returns-then-place-eq0 g c = c.pop_front.ensures.rest ∙ first_gone c.args.items.now.items ∙ ap (remove c.args.items.now.items) (sym c.if-place-eq0.true)
-
-pub returns : goal.returns
-returns g c = on_some c.remove.result (c.remove.ensures.variant.1 (omega (arith, c.requires, c.args.items.now.ok.0))) c.remove.ensures.items

@@ -1,4 +1,4 @@
-use Rattle.number_set.proofs.Searching.{end_gap, last_found, searched_place}
+use Rattle.number_set.proofs.Searching.{end_gap, last_found}
 use Rattle.number_set.proofs.set.place_by.Goals as goal
 use Rattle.std.proofs.Common.{arith, refl, ◌∙◌}
 
@@ -7,6 +7,3 @@ returns-then-last-number c = last_found c.args.items.now c.args.number _ refl c.
 
 pub returns-then-number-last : goal.returns-then-number-last
 returns-then-number-last c = end_gap c.args.items.now c.args.number _ c.requires.rises refl c.requires.some (omega (arith, c.requires.last, c.if-number-last.true))
-
-pub returns : goal.returns
-returns c = searched_place c.args.items.now c.args.number c.binary_search.result c.binary_search.ensures.position c.requires.rises

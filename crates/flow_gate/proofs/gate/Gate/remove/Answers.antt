@@ -1,12 +1,12 @@
-use Rattle.flow_gate.proofs.Live.{Rises-closed, all-closed, live-closed}
-use Rattle.flow_gate.proofs.Places.{line_left}
+use Rattle.flow_gate.proofs.Live.{Rises-closed, Rises-nil, all-closed, live-closed}
+use Rattle.flow_gate.proofs.Places.{leaves_none, line_left}
 use Rattle.flow_gate.proofs.Rising.{Rises}
 use Rattle.flow_gate.proofs.SideBySide.{empty_row}
 use Rattle.flow_gate.proofs.gate.Gate.remove.Goals as goal
 use Rattle.flow_gate.proofs.gate.Gate.remove.Goals.{After-close_up, Else-leave}
 use Rattle.flow_gate.specs.Line.{live, places_of}
 use Rattle.flow_gate.specs.declared.stands.Stand.{Stand}
-use Rattle.std.proofs.Common.{Vec, ap, arith, rules, subst, sym, ◌∙◌}
+use Rattle.std.proofs.Common.{Vec, ap, arith, refl, rules, subst, sym, ◌∙◌}
 use Rattle.std.proofs.lemmas.List.{length-map, with_items_is}
 use Rattle.std.specs.BTreeMap.{is_at}
 use Rattle.std.specs.List.{AllByRecursion}
@@ -25,6 +25,23 @@ module _ {Z : Type 0} where
       let now : length (places_of new) ≡ length new = length-map new (λ (s : Stand). s.place) in
       with_items_is line new (omega (arith, same, old, now, long))
 
+-- the only one in line
+pub invariant_of-self-then-self-eq1 : goal.invariant_of-self-then-self-eq1
+invariant_of-self-then-self-eq1 c = rw c.clear-then-self-eq1.ensures.items (record {
+  rising = Rises-nil;
+  below = tt;
+  forward = c.self.invariant.forward;
+  within = c.self.invariant.within;
+  counted = refl;
+  few = omega arith;
+  whole = λ same. c.clear.ensures.items;
+})
+
+pub returns-then-self-eq1 : goal.returns-then-self-eq1
+returns-then-self-eq1 c = rw (← c.self.view_is) (λ flow at once. line_left c.self.inside.told c.self.inside.drained c.args.place flow c.self.inside.above (live c.self.inside.line.items) (live c.clear-then-self-eq1.new.self.items)
+    (ap live c.clear-then-self-eq1.ensures.items ∙ leaves_none c.args.place flow (live c.self.inside.line.items) (sym c.self.invariant.counted ∙ c.if-self-eq1.true) at) at once)
+
+-- one of several
 pub invariant_of-self : goal.invariant_of-self
 invariant_of-self c =
     let kept = lies c.self.inside.line c.as_mut_slice.result.now c.leave.new.stands c.as_mut_slice.ensures.len c.leave.ensures.places in
