@@ -3,6 +3,8 @@ ghost use Rattle.std.specs.Prelude.{◌≡◌, ◌≤◌, ◌-◌, drop, false, 
 ghost use Rattle.std.specs.Option.{option_map_or};
 ghost use Rattle.std.specs.Str.{bytes_eq};
 
+use hpack_codec::is_same;
+
 /// The first `n` octets and the last `n`. Of at most twice as many octets each is in one of them, so
 /// that a pass over both looks at all. Where `n` is written out, the compiler makes each of the two
 /// passes of a few instructions for vectors, whatever the length of the whole is.
@@ -31,7 +33,7 @@ pub fn is_text<const N: usize>(octets: &[u8], known: &[u8; N]) -> bool
     if ends_otherwise(array, known) {
         return false;
     }
-    *array == *known
+    is_same(array, known)
 }
 
 // Whether their last octets differ.

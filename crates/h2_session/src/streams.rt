@@ -91,12 +91,13 @@ impl Streams {
         }
     }
 
-    /// DATA came on a stream; `last` is its END_STREAM, which closes the peer's half.
-    pub fn data_came(&mut self, stream: u32, last: bool)
+    /// DATA came on a stream, of which `get` gives this state. `last` is its END_STREAM, which closes the peer's half.
+    pub fn data_came(&mut self, stream: u32, state: Option<Stream>, last: bool)
+        requires { state ≡ stream_at stream self.old }
         ensures moves { Puts stream (after_data last (stream_at stream self.old)) self.old self.new }
         ensures other { IsNone (stream_at stream self.old) → self.new ≡ self.old }
     {
-        if let Some(state) = self.get(stream) {
+        if let Some(state) = state {
             let peer_ended = state.peer_ended || last;
             self.set(
                 stream,
@@ -108,12 +109,13 @@ impl Streams {
         }
     }
 
-    /// A header block came on a stream, its last one perhaps.
-    pub fn block_came(&mut self, stream: u32, last: bool)
+    /// A header block came on a stream, of which `get` gives this state. It is its last one perhaps.
+    pub fn block_came(&mut self, stream: u32, state: Option<Stream>, last: bool)
+        requires { state ≡ stream_at stream self.old }
         ensures moves { Puts stream (after_block last (stream_at stream self.old)) self.old self.new }
         ensures other { IsNone (stream_at stream self.old) → self.new ≡ self.old }
     {
-        if let Some(state) = self.get(stream) {
+        if let Some(state) = state {
             let state = Stream {
                 peer_ended: state.peer_ended || last,
                 ended: state.ended,

@@ -1,11 +1,13 @@
 pub mod BlockSizes
 pub mod Blocks
 pub mod CollectedLemmas
+pub mod FieldSearch
 pub mod IntegerLemmas
 pub mod Kept
 pub mod OneInteger
 pub mod OneReading
 pub mod Readback
+pub mod SameEnds
 pub mod Spellings
 pub mod Spelt
 pub mod StaticPlaces

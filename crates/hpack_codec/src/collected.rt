@@ -73,10 +73,11 @@ impl Collected {
         ensures ok { OnOk result ((most : ℕ) (fields : List Field) → Holds most self.old fields →
             Holds most self.new (fields ++ field ∷ [])) }
     {
-        if !self.counts(counted_size(field.name.len(), field.value.len())) {
+        let size = counted_size(field.name.len(), field.value.len());
+        if !self.counts(size) {
             return Ok(());
         }
-        self.fields.keep(field)
+        self.fields.keep(field, size)
     }
 
     /// Adds a field that is a copy of an entry.
@@ -85,15 +86,17 @@ impl Collected {
         ensures ok { OnOk result ((most : ℕ) (fields : List Field) → Holds most self.old fields →
             Holds most self.new (fields ++ field_of (entry_line entry.entry) false ∷ [])) }
     {
-        if !self.counts(entry.size()) {
+        let size = entry.size();
+        if !self.counts(size) {
             return Ok(());
         }
         let line = entry.line(self.alloc)?;
-        self.fields.keep(Field {
+        let field = Field {
             name: line.name,
             value: line.value,
             never: false,
-        })
+        };
+        self.fields.keep(field, size)
     }
 
     /// The list, unless it is too long.

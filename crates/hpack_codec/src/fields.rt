@@ -1,5 +1,5 @@
 // Fields and lists of fields.
-ghost use Rattle.std.specs.Prelude.{◌≡◌, ◌==◌, ◌++◌, ◌∷◌, ◌-◌, ◌^◌, ◌↔◌, [], length, min, All, IfOk, IsTrue, OnOk, OnErr};
+ghost use Rattle.std.specs.Prelude.{◌≡◌, ◌==◌, ◌++◌, ◌∷◌, ◌+◌, ◌-◌, ◌^◌, ◌↔◌, [], length, min, All, IfOk, IsTrue, OnOk, OnErr};
 ghost use Rattle.hpack_codec.specs.Encoding.{HasSpelling};
 
 use crate::line::counted_size;
@@ -80,17 +80,18 @@ impl FieldList {
         if !field.has_spelling() {
             return Err(NoMemory);
         }
-        self.keep(field)
+        let size = counted_size(field.name.len(), field.value.len());
+        self.keep(field, size)
     }
 
-    /// Appends a field that has a spelling. After running out of memory the list is as it was.
+    /// Appends a field that has a spelling and counts so much. After running out of memory the list is as it was.
     #[inline(always)]
-    pub(crate) fn keep(&mut self, field: Field) -> Result<(), NoMemory>
-        requires { HasSpelling field }
+    pub(crate) fn keep(&mut self, field: Field, size: usize) -> Result<(), NoMemory>
+        requires spelled { HasSpelling field }
+        requires size { size ≡ min (length field.name + length field.value + 32) (2 ^ 64 - 1) }
         ensures ok { OnOk result (self.new ≡ self.old ++ field ∷ []) }
         ensures err { OnErr result (self.new ≡ self.old) }
     {
-        let size = counted_size(field.name.len(), field.value.len());
         self.fields.push(field)?;
         self.size = self.size.saturating_add(size);
         Ok(())

@@ -16,6 +16,7 @@ mod spelling;
 mod static_table;
 mod strings;
 mod table;
+mod words;
 
 pub use decoder::Decoder;
 pub use encoder::Encoder;
@@ -23,3 +24,4 @@ pub use fault::HpackFault;
 pub use fields::{Field, FieldList};
 pub use laws::{block_fits, integer_spellings, one_reading};
 pub use line::Line;
+pub use words::is_same;

@@ -1,9 +1,9 @@
 // How fields are spelled.
 ghost use Rattle.std.specs.Prelude.{◌≡◌, ◌+◌, ◌*◌, ◌^◌, ◌≤◌, ◌<◌, ◌++◌, OnOk, length};
-ghost use Rattle.hpack_codec.specs.Encoding.{varint, integer, plain_string, spelled_name, literal, encode_field};
+ghost use Rattle.hpack_codec.specs.Encoding.{varint, integer, plain_string, spelled_name, literal, encode_field, name_index};
 
 use crate::fields::Field;
-use crate::static_table::{index_of_entry, index_of_name};
+use crate::static_table::find;
 use std::alloc::AllocError;
 
 /// Writes what a full prefix leaves of an integer: seven bits an octet, the lowest first.
@@ -52,12 +52,18 @@ fn push_string(out: &mut Vec<u8>, text: &[u8]) -> Result<(), AllocError>
 }
 
 /// Writes the name of a literal: the lowest index of an entry with this name, or a string.
-fn push_name(out: &mut Vec<u8>, pattern: u8, name: &[u8]) -> Result<(), AllocError>
+fn push_name(
+    out: &mut Vec<u8>,
+    pattern: u8,
+    name: &[u8],
+    index: Option<u32>,
+) -> Result<(), AllocError>
     requires pattern { pattern < 16 }
     requires name { length name.now < 2 ^ 32 }
+    requires index { index ≡ name_index name.now }
     ensures { OnOk result (out.new.items ≡ out.old.items ++ spelled_name pattern name.now) }
 {
-    match index_of_name(name) {
+    match index {
         Some(index) => push_integer(out, 4, pattern, index),
         None => {
             push_integer(out, 4, pattern, 0)?;
@@ -66,13 +72,14 @@ fn push_name(out: &mut Vec<u8>, pattern: u8, name: &[u8]) -> Result<(), AllocErr
     }
 }
 
-/// Writes a field as a literal that changes no table.
-fn push_literal(out: &mut Vec<u8>, field: &Field) -> Result<(), AllocError>
+/// Writes a field as a literal that changes no table, by the lowest index of an entry with its name.
+fn push_literal(out: &mut Vec<u8>, field: &Field, index: Option<u32>) -> Result<(), AllocError>
     requires name { length field.now.name < 2 ^ 32 }
     requires value { length field.now.value < 2 ^ 32 }
+    requires index { index ≡ name_index field.now.name }
     ensures { OnOk result (out.new.items ≡ out.old.items ++ literal field.now) }
 {
-    push_name(out, u8::from(field.never), field.name.as_slice())?;
+    push_name(out, u8::from(field.never), field.name.as_slice(), index)?;
     push_string(out, field.value.as_slice())
 }
 
@@ -82,11 +89,12 @@ pub(crate) fn push_field(out: &mut Vec<u8>, field: &Field) -> Result<(), AllocEr
     requires value { length field.now.value < 2 ^ 32 }
     ensures { OnOk result (out.new.items ≡ out.old.items ++ encode_field field.now) }
 {
+    let found = find(field.name.as_slice(), field.value.as_slice());
     if field.never {
-        return push_literal(out, field);
+        return push_literal(out, field, found.name);
     }
-    match index_of_entry(field.name.as_slice(), field.value.as_slice()) {
+    match found.whole {
         Some(index) => push_integer(out, 7, 1, index),
-        None => push_literal(out, field),
+        None => push_literal(out, field, found.name),
     }
 }

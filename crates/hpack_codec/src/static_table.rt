@@ -2,9 +2,10 @@
 ghost use Rattle.std.specs.Prelude.{◌≡◌, ◌<◌, ◌&&◌, [], Some, length, map, slice_get, slice_index_or};
 ghost use Rattle.std.specs.Str.{bytes_eq};
 ghost use Rattle.hpack_codec.specs.Table.{line, places_of, row_of, static_table};
-ghost use Rattle.hpack_codec.specs.Encoding.{index_from};
+ghost use Rattle.hpack_codec.specs.Encoding.{index_from, name_index};
 
 use crate::line::Row;
+use crate::words::is_same;
 
 /// The names of the static table, in the order of their indexes, which begin with 1
 /// (RFC 7541 Appendix A).
@@ -254,27 +255,36 @@ fn places_of(name: &[u8]) -> &'static [u8]
     row_at(&ROWS, row_of(name))
 }
 
-/// The lowest index of an entry with this name.
-pub(crate) fn index_of_name(name: &[u8]) -> Option<u32>
-    ensures { result ≡ index_from 1 (λ l. bytes_eq l.name name.now) static_table }
-{
-    for place in places_of(name) {
-        if static_entry(usize::from(*place)).name == name {
-            return Some(u32::from(*place) + 1);
-        }
-    }
-    None
+/// What the static table has of a field.
+#[derive(Clone, Copy)]
+pub(crate) struct Found {
+    /// The lowest index of an entry with its name.
+    pub name: Option<u32>,
+    /// The lowest index of an entry with its name and its value.
+    pub whole: Option<u32>,
 }
 
-/// The lowest index of an entry with this name and this value.
-pub(crate) fn index_of_entry(name: &[u8], value: &[u8]) -> Option<u32>
-    ensures { result ≡ index_from 1 (λ l. bytes_eq l.name name.now && bytes_eq l.value value.now) static_table }
+/// Looks for a field by its name and its value.
+pub(crate) fn find(name: &[u8], value: &[u8]) -> Found
+    ensures name { result.name ≡ name_index name.now }
+    ensures whole { result.whole ≡ index_from 1 (λ l. bytes_eq l.name name.now && bytes_eq l.value value.now) static_table }
 {
+    let mut first = None;
     for place in places_of(name) {
         let entry = static_entry(usize::from(*place));
-        if entry.name == name && entry.value == value {
-            return Some(u32::from(*place) + 1);
+        if is_same(entry.name, name) {
+            let index = u32::from(*place) + 1;
+            first = first.or(Some(index));
+            if is_same(entry.value, value) {
+                return Found {
+                    name: first,
+                    whole: Some(index),
+                };
+            }
         }
     }
-    None
+    Found {
+        name: first,
+        whole: None,
+    }
 }

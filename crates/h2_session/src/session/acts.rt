@@ -283,16 +283,9 @@ impl Session {
         ensures of { IfOk result (λ act. stream_of act ≤ stream) }
         ensures err { OnErr result (self.new ≡ self.old) }
     {
-        let act = data_act(
-            self.alloc,
-            self.streams.get(stream),
-            stream,
-            last,
-            padded,
-            octets,
-            content,
-        )?;
-        self.streams.data_came(stream, last);
+        let state = self.streams.get(stream);
+        let act = data_act(self.alloc, state, stream, last, padded, octets, content)?;
+        self.streams.data_came(stream, state, last);
         self.empties = run_after(self.empties, self.empty_frames, octets, padded, last);
         Ok(act)
     }

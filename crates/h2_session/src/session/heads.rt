@@ -86,8 +86,9 @@ impl Session {
         if !self.client_side && stream > self.greatest {
             return self.begin_stream(stream, last, block);
         }
-        let act = block_act(self.streams.get(stream), stream, last, block);
-        self.streams.block_came(stream, last);
+        let state = self.streams.get(stream);
+        let act = block_act(state, stream, last, block);
+        self.streams.block_came(stream, state, last);
         self.greatest = self.greatest.max(stream);
         Ok(act)
     }
