@@ -100,11 +100,14 @@ impl Flow {
             return Ok(false);
         }
         let held = self.recv.len();
-        let _ = self.recv.take(held);
-        self.window = 0;
-        self.message = Message::new();
+        if held > 0 {
+            let _ = self.recv.take(held);
+        }
+        self.message.clear();
         self.multiple = multiple;
-        self.recv.ready(recv_room(0, spec))?;
+        if self.window < spec.recv {
+            self.recv.ready(recv_room(0, spec))?;
+        }
         self.window = spec.recv;
         Ok(true)
     }

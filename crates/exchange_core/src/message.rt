@@ -46,6 +46,18 @@ impl Message {
         }
     }
 
+    /// What came is forgotten: it is as a new one.
+    pub(crate) fn clear(&mut self)
+        ensures { self.new ≡ empty_message }
+    {
+        self.head = None;
+        self.head_ends = false;
+        self.head_framed = false;
+        self.ended = false;
+        self.trailers = None;
+        self.end_framed = false;
+    }
+
     pub(crate) fn head_waits(&self) -> bool
         ensures { result ≡ head_waits self.now }
     {

@@ -62,6 +62,25 @@ impl Spares {
         {
             return Ok(flow);
         }
+        self.made(id, filters, spec, multiple)
+    }
+
+    // A new flow. Once as many were kept as are live at a time this is rare, so it stands out of the way of those that are renewed.
+    #[inline(never)]
+    fn made(
+        &self,
+        id: FlowId,
+        filters: &FilterList,
+        spec: &StartSpec,
+        multiple: u32,
+    ) -> Result<FlowBox, NoMemory>
+        requires filters { AreFilters filters.now }
+        requires recv { spec.now.recv ≤ most_octets }
+        requires send { spec.now.send ≤ most_octets }
+        requires quantum { IsBetween 16384 1048576 spec.now.quantum }
+        ensures begun { IfOk result (λ flow. flow ≡ begun_flow id filters.now spec.entry.now multiple) }
+        ensures sound { IfOk result IsSound }
+    {
         FlowBox::new(
             self.alloc,
             Flow::new(self.alloc, id, filters, spec, multiple)?,

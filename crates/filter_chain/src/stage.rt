@@ -114,7 +114,9 @@ impl Stage {
         ensures room { KeepsRoom self.old self.new }
     {
         let held = self.buffer.len();
-        let _ = self.buffer.take(held);
+        if held > 0 || self.buffer.is_above() {
+            let _ = self.buffer.take(held);
+        }
     }
 
     /// Whether this is a Hold whose limit n more octets pass.

@@ -5,7 +5,6 @@ use Rattle.exchange_core.specs.Exchange.{IsFlowOf}
 use Rattle.exchange_core.specs.Exchanges.{Exchanges, IsSound as AreSoundExchanges, flow_at}
 use Rattle.exchange_core.specs.Flow.{Flow, last_place}
 use Rattle.exchange_core.specs.Moves.{next_step, stepped}
-use Rattle.exchange_core.specs.declared.step.Advance.{Advance}
 use Rattle.exchange_core.specs.declared.step.Step.{Step}
 use Rattle.exchange_core.specs.declared.step.Step.TheVariants as step
 use Rattle.filter_chain.specs.Place.{Place}
@@ -16,9 +15,10 @@ use Rattle.flow_rules.specs.declared.ids.BufferId.{BufferId}
 use Rattle.flow_rules.specs.declared.ids.FlowId.{FlowId}
 use Rattle.io_ports.specs.declared.octets.NoMemory.{NoMemory}
 use Rattle.std.proofs.Common.{ap, arith, refl, subst, sym, ◌∙◌}
+use Rattle.std.proofs.lemmas.Bool.{false≢true}
 use Rattle.std.proofs.lemmas.Option.{none-some, same_Some}
 use Rattle.std.specs.Option.{option_map_or}
-use Rattle.std.specs.Prelude.{Bool, Err, IfSome, List, None, Ok, OnErr, Option, Result, Some, [], if◌then◌else◌, length, option_map, set, suc, true, zero, ℕ, ◌+◌, ◌-◌, ◌<◌, ◌==◌, ◌∷◌, ◌≡◌, ◌≤◌}
+use Rattle.std.specs.Prelude.{Bool, Err, IfSome, List, None, Ok, OnErr, Option, Result, Some, [], false, if◌then◌else◌, is_some, length, option_map, set, suc, true, zero, ℕ, ◌+◌, ◌-◌, ◌<◌, ◌==◌, ◌∷◌, ◌≡◌, ◌≤◌}
 use Rattle.wire_flows.proofs.Answering.{keeps_same}
 use Rattle.wire_flows.proofs.Cases.{by_case}
 use Rattle.wire_flows.proofs.Crossable.{any_drained, may_cross}
@@ -43,18 +43,18 @@ same_length (x ∷ xs) zero y = refl
 same_length (x ∷ xs) (suc i) y = let rest = same_length xs i y in omega (arith, rest)
 
 -- ---- what the exchanges answered
-pub no_flow : (g : Flow → Step) (a : Option Advance) (o : Option Flow) → a ≡ None → option_map (λ (v : Advance). v.step) a ≡ option_map g o → o ≡ None
-no_flow g a None is e = refl
-no_flow g a (Some flow) is e = absurd (none-some _ (sym (ap (option_map (λ (v : Advance). v.step)) is) ∙ e))
+pub absent : (o : Option Flow) (there : Bool) → there ≡ false → (is_some o ≡ true → there ≡ true) → o ≡ None
+absent None there no is = refl
+absent (Some flow) there no is = absurd (false≢true (sym no ∙ is refl))
 
 pub record StepIs (g : Flow → Step) (o : Option Flow) (t : Step) : Type 0 where
   pub flow : Flow
   pub found : o ≡ Some flow
   pub is : g flow ≡ t
 
-pub step_is : (g : Flow → Step) (a : Option Advance) (v : Advance) (o : Option Flow) → a ≡ Some v → option_map (λ (v : Advance). v.step) a ≡ option_map g o → StepIs g o v.step
-step_is g a v None is e = absurd (none-some _ (sym e ∙ ap (option_map (λ (v : Advance). v.step)) is))
-step_is g a v (Some flow) is e = record { flow = flow; found = refl; is = same_Some (g flow) v.step (sym e ∙ ap (option_map (λ (v : Advance). v.step)) is) }
+pub step_is : (g : Flow → Step) (t : Step) (o : Option Flow) → Some t ≡ option_map g o → StepIs g o t
+step_is g t None is = absurd (none-some t (sym is))
+step_is g t (Some flow) is = record { flow = flow; found = refl; is = same_Some (g flow) t (sym is) }
 
 pub err_of : (old : Flows) (ex : Exchanges) (r : Result Outcome NoMemory) → ex ≡ old.exchanges → OnErr r (◌≡◌ {A = Flows} (record { exchanges = ex; gates = old.gates }) old)
 err_of old ex (Ok o) e = tt

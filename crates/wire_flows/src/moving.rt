@@ -14,7 +14,7 @@ ghost use Rattle.wire_flows.specs.Sound.{IsSound};
 ghost use Rattle.wire_flows.specs.Writes.{KeepsWrites};
 
 use crate::flows::WireFlows;
-use exchange_core::{Advance, Exchanges, Step};
+use exchange_core::{Exchanges, Step};
 use flow_gate::{BufferId, FlowId, Gates};
 use io_ports::NoMemory;
 use wm_buffer::Crossed;
@@ -65,9 +65,10 @@ impl WireFlows {
         ensures sound { IsSound self.new }
         ensures err { OnErr result (self.new ≡ self.old) }
     {
-        let Some(Advance { step, .. }) = self.exchanges.advance(flow, &self.gates, 0, 0)? else {
+        if !self.exchanges.has_flow(flow) {
             return Ok(Outcome::Still);
-        };
+        }
+        let step = self.exchanges.step(flow, &self.gates)?;
         Ok(mark_step(&self.exchanges, &mut self.gates, flow, step))
     }
 }

@@ -68,8 +68,9 @@ impl Flow {
         ensures carried { result ≡ carried room frame self.now }
         ensures few { result ≤ length (send self.now) }
     {
-        let room = u32::try_from(room.max(0)).unwrap_or(u32::MAX);
-        self.quantum.min(frame.min(room)).min(sent)
+        let most = room.min(i64::from(frame)).max(0);
+        let most = u32::try_from(most).unwrap_or(frame);
+        self.quantum.min(most).min(sent)
     }
 
     /// Whether the flow's end came, and nothing is left of its body but the first n of the octets `sent` in the send
