@@ -16,6 +16,10 @@ pub fn write_all<K: Sink>(out: &mut K, text: &[u8]) -> Result<(), Failed>
     let mut rest = text;
     while !rest.is_empty() {
         let n = out.write(rest)?;
+        // Nearly always all is taken at once.
+        if n == rest.len() {
+            return Ok(());
+        }
         if n == 0 {
             return Err(Failed);
         }

@@ -1,5 +1,5 @@
 // The frames of the octets that were read.
-ghost use Rattle.std.specs.Prelude.{◌≡◌, ◌<◌, ◌≤◌, IfOk, OnOk};
+ghost use Rattle.std.specs.Prelude.{◌≡◌, ◌<◌, ◌≤◌, ◌+◌, IfOk, OnOk};
 ghost use Rattle.wire_state.specs.Intakes.{PaysFor};
 ghost use Rattle.wire_state.specs.Agenda.{top_go};
 ghost use Rattle.wire_state.specs.Noting.{Appends};
@@ -23,7 +23,10 @@ pub fn read(core: &mut WireCore, number: u32, notes: &mut Notes) -> Result<(), N
     ensures notes { Appends notes.old notes.new }
     ensures octets { Goes result core.old notes.old core.new notes.new }
 {
-    match next(core, number)? {
+    let Ok(intake) = next(core, number) else {
+        return Err(NoMemory);
+    };
+    match intake {
         Intake::Need => {
             core.end_task();
             Ok(())
@@ -33,12 +36,23 @@ pub fn read(core: &mut WireCore, number: u32, notes: &mut Notes) -> Result<(), N
             close(core, number, code, CloseCause::Protocol, notes)
         }
         Intake::Taken(taken) => {
-            core.stir(number)?;
-            end_read(core, number);
-            core.begin(Task::AskDrain(number))?;
+            follow_up(core, number)?;
             take_act(core, number, taken, notes)
         }
     }
+}
+
+// What follows each frame that was read, whatever it means: the connection has changed, and may have something to frame.
+#[inline(always)]
+fn follow_up(core: &mut WireCore, number: u32) -> Result<(), NoMemory>
+    requires sound { IsSound core.old }
+    ensures sound { OnOk result (IsSound core.new) }
+    ensures go { OnOk result (to_go core.new ≤ to_go core.old + 3) }
+    ensures octets { KeepsOk result core.old core.new }
+{
+    core.stir(number)?;
+    end_read(core, number);
+    core.begin(Task::AskDrain(number))
 }
 
 // Where all octets of the connection are read, no more frames are taken.
@@ -70,8 +84,8 @@ fn next(core: &mut WireCore, number: u32) -> Result<Intake, NoMemory>
     ensures octets { KeepsOk result core.old core.new }
 {
     let most = core.config.limits.frame_size;
-    match core.conns.get_mut(&number) {
-        Some(conn) => conn.take_frame(most),
-        None => Ok(Intake::Need),
-    }
+    let Some(conn) = core.conns.get_mut(&number) else {
+        return Ok(Intake::Need);
+    };
+    conn.take_frame(most)
 }

@@ -48,10 +48,11 @@ fn behind_preface<'a>(
     }
 }
 
-// The octets of a DATA frame without padding, or the entries of SETTINGS, that ends at a place.
-fn content_before(unread: &Unread, end: usize, frame: &Frame) -> Result<Option<Octets>, NoMemory>
+// The octets of a DATA frame without padding, or the entries of SETTINGS, that ends at a place. None after running out of memory
+// too: then the session copies them.
+fn content_before(unread: &Unread, end: usize, frame: &Frame) -> Option<Octets>
     requires { EndsAt end unread.now (view frame.now) }
-    ensures { IfOk result (λ content. IfSome content (IsContentOf (view frame.now))) }
+    ensures { IfSome result (IsContentOf (view frame.now)) }
 {
     match *frame {
         Frame::DataFrame {
@@ -60,13 +61,13 @@ fn content_before(unread: &Unread, end: usize, frame: &Frame) -> Result<Option<O
             ..
         } => {
             let n = octets.len();
-            Ok(Some(unread.part(end - n, n)?))
+            unread.part(end - n, n).ok()
         }
         Frame::Settings { entries, .. } => {
             let n = entries.len();
-            Ok(Some(unread.part(end - n, n)?))
+            unread.part(end - n, n).ok()
         }
-        _ => Ok(None),
+        _ => None,
     }
 }
 
@@ -154,8 +155,10 @@ impl Inlet {
             ReadFrame::Bad(fault) => Ok(Intake::Fault(fault.code())),
             ReadFrame::Whole(frame, used) => {
                 let read = unread.len() - frames.len() + used as usize;
-                let content = content_before(&self.unread, read, &frame)?;
-                let taken = self.reader.take(&frame, content)?;
+                let content = content_before(&self.unread, read, &frame);
+                let Ok(taken) = self.reader.take(&frame, content) else {
+                    return Err(NoMemory);
+                };
                 self.unread.take(read);
                 self.prefaced = true;
                 Ok(Intake::Taken(taken))

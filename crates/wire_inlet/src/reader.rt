@@ -51,6 +51,12 @@ fn block_of(act: &Act) -> Option<&[u8]>
     }
 }
 
+// Lets an act go. It is a call of its own, so that nothing of it stands where an act is handed on.
+#[inline(never)]
+fn drop_act(act: Act) {
+    drop(act);
+}
+
 // What a block gives. Each is decoded, once and in their order.
 fn read_block(decoder: &mut Decoder, block: &[u8]) -> Result<Reading, NoMemory>
     ensures reads { IfOk result (λ reading. ReadsBlock decoder.old block.now reading decoder.new) }
@@ -115,8 +121,13 @@ impl Reader {
     {
         let counted = frame.content();
         let is_update = matches!(*frame, Frame::WindowUpdate { .. });
-        let act = self.session.accept_with(frame, content)?;
-        let reading = self.read(&act)?;
+        let Ok(act) = self.session.accept_with(frame, content) else {
+            return Err(NoMemory);
+        };
+        let Ok(reading) = self.read(&act) else {
+            drop_act(act);
+            return Err(NoMemory);
+        };
         Ok(Taken {
             act,
             content: counted,

@@ -1,6 +1,6 @@
 -- What was written grows by what the sink took.
-use Rattle.std.proofs.Common.{◌≡◌, ◌++◌, List, ℕ, Option, Some, None, take, drop, sym, ◌∙◌, ap, append_assoc, arith}
-use Rattle.std.proofs.lemmas.List.{take-append-drop}
+use Rattle.std.proofs.Common.{◌≡◌, ◌≤◌, ◌++◌, [], List, ℕ, Option, Some, None, take, drop, length, sym, subst, ◌∙◌, ap, append_assoc, arith}
+use Rattle.std.proofs.lemmas.List.{append-nil, take-append-drop, take_all}
 use Rattle.std.specs.Io.KnownBytes.{Appends}
 use Rattle.session_run.proofs.output.write_all.Goals as goal
 
@@ -13,6 +13,11 @@ appends_more (Some a) (Some b) (Some c) x y p q = q ∙ ap (λ (o : List ℕ). o
 rest_more : (text x rest after : List ℕ) (n : ℕ) → text ≡ x ++ rest → after ≡ drop n rest → text ≡ (x ++ take n rest) ++ after
 rest_more text x rest after n p q = rw q (p ∙ ap (λ (o : List ℕ). x ++ o) (sym (take-append-drop n rest)) ∙ sym (append_assoc x (take n rest) (drop n rest)))
 
+-- the sink took all that was left
+all_taken : (a b c : Option (List ℕ)) (text x rest : List ℕ) (n : ℕ) → text ≡ x ++ rest → length rest ≤ n → Appends a b x → Appends b c (take n rest) → Appends a c text
+all_taken a b c text x rest n is all p q =
+    subst (Appends a c) (ap (λ (o : List ℕ). x ++ o) (take_all n rest all) ∙ sym is) (appends_more a b c x (take n rest) p q)
+
 pub loop-rest-preserved : goal.loop-rest-preserved
 loop-rest-preserved g c =
     let w = c.loop-rest.invariant.written in
@@ -20,3 +25,16 @@ loop-rest-preserved g c =
       written = (w.0 ++ take c.in_ok-n.n c.loop-rest.rest.now, rest_more _ w.0 _ _ c.in_ok-n.n w.1 c.split_at.ensures.back, appends_more _ _ _ w.0 _ w.2 c.in_ok-n.ensures.octets);
       no_fall = omega (arith, c.loop-rest.invariant.no_fall, c.in_ok-n.ensures.cause.no_fall);
     }
+
+pub returns-then-n-len-clause-ok : goal.returns-then-n-len-clause-ok
+returns-then-n-len-clause-ok g c =
+    let w = c.loop-rest.invariant.written in
+    all_taken _ _ _ _ w.0 c.loop-rest.rest.now c.in_ok-n.n w.1 (omega (arith, c.if-n-len.true, c.len.ensures)) w.2 c.in_ok-n.ensures.octets
+
+pub returns-then-n-len-clause-front : goal.returns-then-n-len-clause-front
+returns-then-n-len-clause-front g c = record {
+  front = c.args.text.now;
+  rest = [];
+  is = sym (append-nil c.args.text.now);
+  appends = returns-then-n-len-clause-ok g c;
+}

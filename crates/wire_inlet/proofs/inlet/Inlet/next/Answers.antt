@@ -8,26 +8,26 @@ use Rattle.wire_inlet.proofs.Ended.{ends_at}
 use Rattle.wire_inlet.proofs.Nexts.{left_behind, takes, within}
 use Rattle.wire_inlet.proofs.inlet.Inlet.next.Goals as goal
 
-taken_at : (c : goal.After-self-1) → TakesFrame c.args.max (the_view c.self.inside) c.in_ok-taken-in-Whole.taken
+taken_at : (c : goal.After-self-1) → TakesFrame c.args.max (the_view c.self.inside) c.in-Ok-take.taken
     (the_view (record { unread = c.take-in-Whole.new.self; prefaced = true; reader = c.take.new.self }))
 taken_at c =
     let v : Incoming = the_view c.self.inside in
     let w : Incoming = the_view (record { unread = c.take-in-Whole.new.self; prefaced = true; reader = c.take.new.self }) in
     let frames = c.in-Ok.frames.now in
     let behind = sym c.as_slice-unread.ensures ∙ c.in-Ok.ensures.frames in
-    let means = subst (λ (m : Meaning). Means (view c.in-Whole.frame) m c.in_ok-taken-in-Whole.taken c.take.new.self) c.behind_preface.ensures.same c.in_ok-taken-in-Whole.ensures.means in
+    let means = subst (λ (m : Meaning). Means (view c.in-Whole.frame) m c.in-Ok-take.taken c.take.new.self) c.behind_preface.ensures.same c.in-Ok-take.ensures.means in
     let left = left_behind (preface_left v.prefaced) frames v.unread c.as_slice-unread.result.now c.in-Whole.used c.as_slice-unread.ensures c.in-Ok.ensures.frames in
-    takes c.args.max v w c.in_ok-taken-in-Whole.taken (view c.in-Whole.frame) frames c.in-Whole.used behind c.in-Whole.ensures.reads.1 (c.take-in-Whole.ensures ∙ left) means refl
+    takes c.args.max v w c.in-Ok-take.taken (view c.in-Whole.frame) frames c.in-Whole.used behind c.in-Whole.ensures.reads.1 (c.take-in-Whole.ensures ∙ left) means refl
 
-pub returns-in_ok-taken-in-Whole-clause-next : goal.returns-in_ok-taken-in-Whole-clause-next
-returns-in_ok-taken-in-Whole-clause-next c =
-    subst (λ (x : Incoming). TakesFrame c.args.max x c.in_ok-taken-in-Whole.taken (the_view (record { unread = c.take-in-Whole.new.self; prefaced = true; reader = c.take.new.self }))) c.self.view_is (taken_at c)
+pub returns-in-Whole-clause-next : goal.returns-in-Whole-clause-next
+returns-in-Whole-clause-next c =
+    subst (λ (x : Incoming). TakesFrame c.args.max x c.in-Ok-take.taken (the_view (record { unread = c.take-in-Whole.new.self; prefaced = true; reader = c.take.new.self }))) c.self.view_is (taken_at c)
 
-pub returns-in_ok-taken-in-Whole-clause-inside : goal.returns-in_ok-taken-in-Whole-clause-inside
-returns-in_ok-taken-in-Whole-clause-inside c =
+pub returns-in-Whole-clause-inside : goal.returns-in-Whole-clause-inside
+returns-in-Whole-clause-inside c =
     let w : Incoming = the_view (record { unread = c.take-in-Whole.new.self; prefaced = true; reader = c.take.new.self }) in
-    subst (λ (x : Incoming). IsWithin c.args.max x c.in_ok-taken-in-Whole.taken w) c.self.view_is
-    (within c.args.max (the_view c.self.inside) w c.in_ok-taken-in-Whole.taken (taken_at c) c.in_ok-taken-in-Whole.ensures.numbered c.in_ok-taken-in-Whole.ensures.few)
+    subst (λ (x : Incoming). IsWithin c.args.max x c.in-Ok-take.taken w) c.self.view_is
+    (within c.args.max (the_view c.self.inside) w c.in-Ok-take.taken (taken_at c) c.in-Ok-take.ensures.numbered c.in-Ok-take.ensures.few)
 
 pub content_before-requires : goal.content_before-requires
 content_before-requires c =
