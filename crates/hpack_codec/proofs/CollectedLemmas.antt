@@ -1,6 +1,6 @@
 -- A list of fields that grows.
-use Rattle.std.proofs.Common.{◌≡◌, ℕ, ◌+◌, ◌-◌, ◌^◌, ◌<◌, ◌≤◌, ◌∙◌, List, [], ◌∷◌, ◌++◌, length, min, refl, ap, arith}
-use Rattle.std.proofs.lemmas.List.Sums.{sum_by-append, sum_by-cons}
+use Rattle.std.proofs.Common.{◌≡◌, ℕ, ◌+◌, ◌-◌, ◌^◌, ◌∙◌, List, [], ◌∷◌, length, min, refl, ap, arith}
+use Rattle.std.proofs.lemmas.List.Sums.{sum_by-cons}
 use Rattle.hpack_codec.specs.Collecting.{Holds}
 use Rattle.hpack_codec.specs.Sections.{list_size}
 use Rattle.hpack_codec.specs.declared.collected.Collected.{Collected}

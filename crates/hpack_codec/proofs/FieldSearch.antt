@@ -1,11 +1,11 @@
 -- One search for a field, which finds its name and the whole of it.
-use Rattle.std.proofs.Common.{◌≡◌, ℕ, ◌+◌, ◌<◌, ◌≤◌, ◌∙◌, ◌&&◌, Bool, true, false, List, [], length, drop, get_or, Option, Some, None, refl, sym, ap}
+use Rattle.std.proofs.Common.{◌≡◌, ℕ, ◌+◌, ◌<◌, ◌≤◌, ◌∙◌, ◌&&◌, Bool, true, false, List, length, drop, get_or, Option, Some, None, refl, sym, ap}
 use Rattle.std.proofs.lemmas.Bool.{and_from, and_left, and_parts, and_right}
 use Rattle.std.specs.List.{slice_get}
 use Rattle.std.specs.Option.{option_or}
 use Rattle.std.specs.Str.{bytes_eq}
 use Rattle.hpack_codec.specs.Encoding.{index_from}
-use Rattle.hpack_codec.specs.Table.{line, places_of, row_of, static_table}
+use Rattle.hpack_codec.specs.Table.{places_of, row_of, static_table}
 use Rattle.hpack_codec.specs.declared.line.Line.{Line}
 use Rattle.hpack_codec.proofs.StaticPlaces.{OnlyNamed, among, named_alike, search_begins, searched, searched_all, searches_on}
 

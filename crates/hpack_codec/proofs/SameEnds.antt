@@ -1,13 +1,16 @@
--- Strings of octets that are the same where their two ends are.
-use Rattle.std.proofs.Common.{◌≡◌, ◌≢◌, ℕ, ◌+◌, ◌-◌, ◌≤◌, ◌<◌, ◌∙◌, ◌++◌, ◌&&◌, Bool, true, false, List, [], ◌∷◌, length, drop, take, eqb, Option, Some, None, Bor, MatchOption, option_copied, refl, sym, ap, arith}
-use Rattle.std.proofs.lemmas.Bool.{false_from_ne_true}
+-- Strings of octets that are the same where the words at their two ends are.
+use Rattle.std.proofs.Common.{◌≡◌, ◌≢◌, ℕ, ◌+◌, ◌-◌, ◌≤◌, ◌<◌, ◌∙◌, ◌++◌, ◌&&◌, Bool, true, false, List, [], ◌∷◌, length, drop, take, get_or, eqb, Option, Some, None, Bor, Decides, MatchOption, option_copied, Fits, w8, refl, sym, ap, arith, inl, inr}
+use Rattle.std.proofs.lemmas.Bool.{cases_lt, eq-eqb, eqb-true, false_from_ne_true}
 use Rattle.std.proofs.lemmas.Bool.Decides.{Decides-and, Decides-like, same_from_decides}
-use Rattle.std.proofs.lemmas.List.{drop-drop, take-append-drop}
+use Rattle.std.proofs.lemmas.List.{drop-drop, get_or-drop, get_or-take, get_or_past, length-drop, length-take, length-take-le, take-append-drop}
+use Rattle.std.proofs.lemmas.Option.{MatchOption-at_some}
 use Rattle.std.proofs.lemmas.Slice.Eq.{bytes_eq-Decides}
 use Rattle.std.specs.Array.{IsFirstChunk, IsWholeChunk}
+use Rattle.std.specs.Int.{Width, from_le_bytes, to_le_bytes}
 use Rattle.std.specs.List.{slice_get}
 use Rattle.std.specs.Option.{option_eq}
 use Rattle.std.specs.Str.{bytes_eq}
+use Rattle.hpack_codec.specs.Words.{IsWordOf}
 
 -- what lies behind the first k, as a part of the last k
 behind : (k : ℕ) (xs : List ℕ) → k ≤ length xs → length xs ≤ k + k → drop k xs ≡ drop (k - (length xs - k)) (drop (length xs - k) xs)
@@ -19,57 +22,67 @@ joined : (k : ℕ) (xs ys : List ℕ) → length xs ≡ length ys → k ≤ leng
     → (take k xs ≡ take k ys) × (drop (length xs - k) xs ≡ drop (length ys - k) ys) → xs ≡ ys
 joined k xs ys len least most ends =
     let rest : drop k xs ≡ drop k ys =
-        behind k xs least most
-        ∙ ap (drop (k - (length xs - k))) ends.1
-        ∙ ap (λ (n : ℕ). drop (k - (n - k)) (drop (length ys - k) ys)) len
-        ∙ sym (behind k ys (omega arith) (omega arith)) in
+    behind k xs least most
+    ∙ ap (drop (k - (length xs - k))) ends.1
+    ∙ ap (λ (n : ℕ). drop (k - (n - k)) (drop (length ys - k) ys)) len
+    ∙ sym (behind k ys (omega arith) (omega arith)) in
     sym (take-append-drop k xs)
     ∙ ap (λ (front : List ℕ). front ++ drop k xs) ends.0
     ∙ ap (λ (back : List ℕ). take k ys ++ back) rest
     ∙ take-append-drop k ys
 
-ends_eq : (k : ℕ) (xs ys : List ℕ) → length xs ≡ length ys → k ≤ length xs → length xs ≤ k + k
-    → (bytes_eq (take k xs) (take k ys) && bytes_eq (drop (length xs - k) xs) (drop (length ys - k) ys)) ≡ bytes_eq xs ys
-ends_eq k xs ys len least most =
-    let fronts = bytes_eq-Decides (take k xs) (take k ys) in
-    let backs = bytes_eq-Decides (drop (length xs - k) xs) (drop (length ys - k) ys) in
-    same_from_decides (bytes_eq (take k xs) (take k ys) && bytes_eq (drop (length xs - k) xs) (drop (length ys - k) ys)) (bytes_eq xs ys)
-    (Decides-like (bytes_eq (take k xs) (take k ys) && bytes_eq (drop (length xs - k) xs) (drop (length ys - k) ys))
-      (joined k xs ys len least most)
-      (λ (same : xs ≡ ys). (ap (take k) same, ap (λ (zs : List ℕ). drop (length zs - k) zs) same))
-      (Decides-and (bytes_eq (take k xs) (take k ys)) (bytes_eq (drop (length xs - k) xs) (drop (length ys - k) ys)) fronts backs))
+-- ---- a word is that of its octets alone
+word_Decides : (w : Width) (xs ys : List ℕ) (m n : ℕ) → IsWordOf w xs m → IsWordOf w ys n → Decides (eqb m n) (xs ≡ ys)
+word_Decides w xs ys m n p q = (
+  λ t. sym p.written ∙ ap (to_le_bytes w) (eqb-true m n t) ∙ q.written,
+  λ e. eq-eqb m n (p.read ∙ ap (from_le_bytes w) e ∙ sym q.read),
+)
+
+pub same_by_words : (k : ℕ) (w : Width) (xs ys : List ℕ) (a b c d : ℕ) → length xs ≡ length ys → k ≤ length xs → length xs ≤ k + k
+    → IsWordOf w (take k xs) a → IsWordOf w (take k ys) b → IsWordOf w (drop (length xs - k) xs) c → IsWordOf w (drop (length ys - k) ys) d
+    → (eqb a b && eqb c d) ≡ bytes_eq xs ys
+same_by_words k w xs ys a b c d len least most p q r s =
+    same_from_decides (eqb a b && eqb c d) (bytes_eq xs ys)
+    (Decides-like (eqb a b && eqb c d)
+    (joined k xs ys len least most)
+    (λ (same : xs ≡ ys). (ap (take k) same, ap (λ (zs : List ℕ). drop (length zs - k) zs) same))
+    (Decides-and (eqb a b) (eqb c d) (word_Decides w (take k xs) (take k ys) a b p q) (word_Decides w (drop (length xs - k) xs) (drop (length ys - k) ys) c d r s)))
     (bytes_eq-Decides xs ys)
 
--- ---- the ends as the code reads them
-abbrev pub IsFirst : ℕ → List ℕ → Option (Bor (List ℕ)) → Type 0
-IsFirst k xs r = MatchOption r (length xs < k) (λ chunk. IsFirstChunk xs chunk.now k)
+-- ---- the words at the ends as the code reads them
+abbrev pub AreOctets : List ℕ → Type 0
+AreOctets xs = (i : ℕ) → get_or xs i 0 < 256
 
-abbrev pub IsLast : ℕ → List ℕ → Option (Bor (List ℕ)) → Type 0
-IsLast k xs r = MatchOption r (length xs < k) (λ chunk. (k ≤ length xs) × IsWholeChunk (drop (length xs - k) xs) chunk.now k)
+pub octets_from : (xs : List ℕ) → ((i : ℕ) → Fits w8 (get_or xs i 0)) → AreOctets xs
+octets_from xs fits i = let low : Fits w8 (get_or xs i 0) = fits i in omega arith
 
-abbrev pub chunks_eq : Option (Bor (List ℕ)) → Option (Bor (List ℕ)) → Bool
-chunks_eq = option_eq (λ x y. bytes_eq x.now y.now)
+-- k octets are written as they were read
+abbrev pub RoundTrips : ℕ → Width → Type 0
+RoundTrips k w = (octets : List ℕ) (n : ℕ) → length octets ≡ k → AreOctets octets → n ≡ from_le_bytes w octets → to_le_bytes w n ≡ octets
 
-firsts_eq : (k : ℕ) (xs ys : List ℕ) (x y : Option (Bor (List ℕ))) → k ≤ length xs → k ≤ length ys → IsFirst k xs x → IsFirst k ys y
-    → chunks_eq x y ≡ bytes_eq (take k xs) (take k ys)
-firsts_eq k xs ys (Some x) (Some y) h i p q = ap (λ (front : List ℕ). bytes_eq front y.now) p.same ∙ ap (bytes_eq (take k xs)) q.same
-firsts_eq k xs ys (Some x) None h i p q = absurd (let short : length ys < k = q in omega arith)
-firsts_eq k xs ys None y h i p q = absurd (let short : length xs < k = p in omega arith)
+front_octets : (k : ℕ) (xs : List ℕ) → AreOctets xs → AreOctets (take k xs)
+front_octets k xs all i = elim (cases_lt i k) [
+  | inl low ↦ rw (get_or-take k xs i 0 low) (all i)
+  | inr high ↦ rw (get_or_past (take k xs) i 0 (omega (arith, length-take k xs))) (omega arith)
+]
 
-lasts_eq : (k : ℕ) (xs ys : List ℕ) (x y : Option (Bor (List ℕ))) → k ≤ length xs → k ≤ length ys → IsLast k xs x → IsLast k ys y
-    → chunks_eq x y ≡ bytes_eq (drop (length xs - k) xs) (drop (length ys - k) ys)
-lasts_eq k xs ys (Some x) (Some y) h i p q =
-    ap (λ (back : List ℕ). bytes_eq back y.now) p.1.same ∙ ap (bytes_eq (drop (length xs - k) xs)) q.1.same
-lasts_eq k xs ys (Some x) None h i p q = absurd (let short : length ys < k = q in omega arith)
-lasts_eq k xs ys None y h i p q = absurd (let short : length xs < k = p in omega arith)
+back_octets : (k : ℕ) (xs : List ℕ) → AreOctets xs → AreOctets (drop k xs)
+back_octets k xs all i = rw (get_or-drop k xs i 0) (all (k + i))
 
-pub same_by_ends : (k : ℕ) (xs ys : List ℕ) (a b c d : Option (Bor (List ℕ))) → length xs ≡ length ys → k ≤ length xs → length xs ≤ k + k
-    → IsFirst k xs a → IsFirst k ys b → IsLast k xs c → IsLast k ys d → (chunks_eq a b && chunks_eq c d) ≡ bytes_eq xs ys
-same_by_ends k xs ys a b c d len least most p q r s =
-    let other : k ≤ length ys = omega arith in
-    ap (λ (t : Bool). t && chunks_eq c d) (firsts_eq k xs ys a b least other p q)
-    ∙ ap (λ (t : Bool). bytes_eq (take k xs) (take k ys) && t) (lasts_eq k xs ys c d least other r s)
-    ∙ ends_eq k xs ys len least most
+pub first_word : (k : ℕ) (w : Width) → RoundTrips k w → (xs : List ℕ) (r : Option (Bor (List ℕ))) (chunk : Bor (List ℕ)) (n : ℕ) → k ≤ length xs → AreOctets xs
+    → MatchOption r (length xs < k) (λ x. IsFirstChunk xs x.now k) → r ≡ Some chunk → n ≡ from_le_bytes w chunk.now → IsWordOf w (take k xs) n
+first_word k w back xs r chunk n h all cases is e =
+    let same = (MatchOption-at_some (length xs < k) (λ (x : Bor (List ℕ)). IsFirstChunk xs x.now k) chunk is cases).same in
+    let read : n ≡ from_le_bytes w (take k xs) = e ∙ ap (from_le_bytes w) same in
+    record { read = read; written = back (take k xs) n (length-take-le k xs h) (front_octets k xs all) read }
+
+pub last_word : (k : ℕ) (w : Width) → RoundTrips k w → (xs : List ℕ) (r : Option (Bor (List ℕ))) (chunk : Bor (List ℕ)) (n : ℕ) → k ≤ length xs → AreOctets xs
+    → MatchOption r (length xs < k) (λ x. (k ≤ length xs) × IsWholeChunk (drop (length xs - k) xs) x.now k) → r ≡ Some chunk → n ≡ from_le_bytes w chunk.now
+    → IsWordOf w (drop (length xs - k) xs) n
+last_word k w back xs r chunk n h all cases is e =
+    let same = (MatchOption-at_some (length xs < k) (λ (x : Bor (List ℕ)). (k ≤ length xs) × IsWholeChunk (drop (length xs - k) xs) x.now k) chunk is cases).1.same in
+    let read : n ≡ from_le_bytes w (drop (length xs - k) xs) = e ∙ ap (from_le_bytes w) same in
+    record { read = read; written = back (drop (length xs - k) xs) n (omega (arith, length-drop (length xs - k) xs)) (back_octets (length xs - k) xs all) read }
 
 -- ---- at most one octet, and lengths that differ
 copied_eq : (x y : Option (Bor ℕ)) → option_eq (λ (p q : Bor ℕ). eqb p.now q.now) x y ≡ option_eq eqb (option_copied x) (option_copied y)

@@ -8,3 +8,4 @@ pub mod Sections
 pub mod Spelling
 pub mod Strings
 pub mod Table
+pub mod Words

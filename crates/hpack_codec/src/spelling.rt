@@ -90,11 +90,8 @@ pub(crate) fn push_field(out: &mut Vec<u8>, field: &Field) -> Result<(), AllocEr
     ensures { OnOk result (out.new.items ≡ out.old.items ++ encode_field field.now) }
 {
     let found = find(field.name.as_slice(), field.value.as_slice());
-    if field.never {
-        return push_literal(out, field, found.name);
-    }
     match found.whole {
-        Some(index) => push_integer(out, 7, 1, index),
-        None => push_literal(out, field, found.name),
+        Some(index) if !field.never => push_integer(out, 7, 1, index),
+        _ => push_literal(out, field, found.name),
     }
 }
