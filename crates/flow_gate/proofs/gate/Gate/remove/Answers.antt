@@ -26,8 +26,8 @@ module _ {Z : Type 0} where
       with_items_is line new (omega (arith, same, old, now, long))
 
 -- the only one in line
-pub invariant_of-self-then-self-eq1 : goal.invariant_of-self-then-self-eq1
-invariant_of-self-then-self-eq1 c = rw c.clear-then-self-eq1.ensures.items (record {
+pub invariant_of-self : goal.invariant_of-self
+invariant_of-self c = rw c.clear-then-self-eq1.ensures.items (record {
   rising = Rises-nil;
   below = tt;
   forward = c.self.invariant.forward;
@@ -42,8 +42,8 @@ returns-then-self-eq1 c = rw (← c.self.view_is) (λ flow at once. line_left c.
     (ap live c.clear-then-self-eq1.ensures.items ∙ leaves_none c.args.place flow (live c.self.inside.line.items) (sym c.self.invariant.counted ∙ c.if-self-eq1.true) at) at once)
 
 -- one of several
-pub invariant_of-self : goal.invariant_of-self
-invariant_of-self c =
+pub invariant_of-self-then-leave : goal.invariant_of-self-then-leave
+invariant_of-self-then-leave c =
     let kept = lies c.self.inside.line c.as_mut_slice.result.now c.leave.new.stands c.as_mut_slice.ensures.len c.leave.ensures.places in
     let places : places_of (with_items c.self.inside.line c.leave.new.stands).items ≡ places_of c.self.inside.line.items = ap places_of kept ∙ c.leave.ensures.places ∙ ap places_of c.as_mut_slice.ensures.value in
     let one : length (live c.leave.new.stands) + 1 ≡ length (live c.self.inside.line.items) =
