@@ -8,12 +8,11 @@ use Rattle.flow_gate.specs.Named.{all_of, as_buffer}
 use Rattle.flow_gate.specs.Parts.{bound_after, buffer_at}
 use Rattle.flow_rules.specs.declared.ids.BufferId.TheVariants.{Stage}
 use Rattle.flow_gate.specs.declared.buffers.StageId.{StageId}
-use Rattle.std.proofs.Common.{ap, rules, subst, sym, ◌∙◌}
-use Rattle.std.specs.BTreeMap.{is_at}
+use Rattle.std.proofs.Common.{ap, subst, sym, ◌∙◌}
 use Rattle.std.specs.BTreeMap.Range.{IsEntryInRange, IsInRange, IsLeBy}
 use Rattle.std.specs.List.{slice_get}
 use Rattle.std.specs.Option.{IfSome, IsSome, is_some}
-use Rattle.std.specs.Prelude.{Option, length, ◌≡◌}
+use Rattle.std.specs.Prelude.{Option}
 use Rattle.std.specs.declared.ops.Bound.TheVariants.{Unbounded}
 
 -- the gate of a stage, if it is known

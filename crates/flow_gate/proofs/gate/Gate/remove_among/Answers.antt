@@ -3,7 +3,6 @@ use Rattle.flow_gate.proofs.Places.{line_left}
 use Rattle.flow_gate.proofs.Rising.{Rises}
 use Rattle.flow_gate.proofs.SideBySide.{empty_row}
 use Rattle.flow_gate.proofs.gate.Gate.remove_among.Goals as goal
-use Rattle.flow_gate.proofs.gate.Gate.remove_among.Goals.{After-close_up, Else-leave}
 use Rattle.flow_gate.specs.Line.{live, places_of}
 use Rattle.flow_gate.specs.declared.stands.Stand.{Stand}
 use Rattle.std.proofs.Common.{Vec, ap, arith, rules, subst, sym, ◌∙◌}
