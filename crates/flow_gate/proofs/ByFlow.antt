@@ -61,8 +61,8 @@ module _ {X : Type 0} where
   length-both xs ys = omega (
     arith,
     length-append (named request_of xs) (named response_of ys),
-    length-map xs (λ (e : ℕ × X). (request_of e.0, e.1)),
-    length-map ys (λ (e : ℕ × X). (response_of e.0, e.1)),
+    length-map {B = FlowId × X} xs (λ e. (request_of e.0, e.1)),
+    length-map {B = FlowId × X} ys (λ e. (response_of e.0, e.1)),
   )
 
   request-at : (n : ℕ) (xs ys : List (ℕ × X)) → flow_at (both xs ys) (request_of n) ≡ number_at n xs

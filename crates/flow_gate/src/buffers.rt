@@ -130,6 +130,7 @@ impl Buffers {
     }
 
     /// The first stage of a flow that is known, or the first one after another.
+    #[inline(always)]
     pub(crate) fn stage_after(&self, flow: FlowId, after: Option<u32>) -> Option<u32>
         ensures later { IfSome result (λ i. is_after after i ≡ true) }
         ensures first { IfSome result (λ i. (j : ℕ) → is_after after j ≡ true → j < i → buffer_at self.now (BufferId.Stage flow j) ≡ None) }
@@ -138,6 +139,16 @@ impl Buffers {
         if self.stages.is_empty() {
             return None;
         }
+        self.next_stage(flow, after)
+    }
+
+    // The same by a search. Few flows have stages, so it isn't inlined.
+    #[inline(never)]
+    fn next_stage(&self, flow: FlowId, after: Option<u32>) -> Option<u32>
+        ensures later { IfSome result (λ i. is_after after i ≡ true) }
+        ensures first { IfSome result (λ i. (j : ℕ) → is_after after j ≡ true → j < i → buffer_at self.now (BufferId.Stage flow j) ≡ None) }
+        ensures none { IfNone result ((j : ℕ) → is_after after j ≡ true → buffer_at self.now (BufferId.Stage flow j) ≡ None) }
+    {
         let (&stage, _) = self
             .stages
             .range((bound_after(flow, after), Bound::Unbounded))

@@ -151,16 +151,26 @@ impl Gate {
     }
 
     /// The flow at a place leaves the line, and takes its pending low along.
+    #[inline(always)]
     pub(crate) fn remove(&mut self, place: u64)
         ensures { (flow : FlowId) → at_place place self.old.watchers ≡ Some flow → times flow (values_of self.old.watchers) ≤ 1 → self.new ≡ left flow self.old }
     {
-        self.row.clear();
         if self.standing == 1 {
             // It stands alone, so it isn't looked for.
+            self.row.clear();
             self.line.clear();
             self.standing = 0;
             return;
         }
+        self.remove_among(place);
+    }
+
+    // The same of one of several, which is looked for.
+    #[inline(never)]
+    fn remove_among(&mut self, place: u64)
+        ensures { (flow : FlowId) → at_place place self.old.watchers ≡ Some flow → times flow (values_of self.old.watchers) ≤ 1 → self.new ≡ left flow self.old }
+    {
+        self.row.clear();
         if leave(self.line.as_mut_slice(), place) {
             self.standing -= 1;
             close_up(&mut self.line, self.standing);

@@ -27,10 +27,18 @@ impl Spares {
     }
 
     /// Makes room for those that are kept.
+    #[inline(always)]
     pub(crate) fn ready(&mut self) -> Result<(), NoMemory> {
         if self.gates.capacity() < MOST {
-            self.gates.reserve(MOST)?;
+            return self.make_room();
         }
+        Ok(())
+    }
+
+    // The first gate that comes makes it, so it isn't inlined.
+    #[inline(never)]
+    fn make_room(&mut self) -> Result<(), NoMemory> {
+        self.gates.reserve(MOST)?;
         Ok(())
     }
 

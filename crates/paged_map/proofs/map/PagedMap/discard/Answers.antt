@@ -16,9 +16,9 @@ pub returns-in_default-clause-entries : goal.returns-in_default-clause-entries
 returns-in_default-clause-entries g c =
     let gap = subst (IsGap (c.number-number.result / 16) c.in_default.field-0) c.as_slice.ensures.value c.in_default.ensures in
     remove_none (is_at (nat_cmp (g.K.Key.number c.args.key.now))) c.args.self.now.entries (
-      sym (ap (λ n. value_at n c.args.self.now) c.number-number.ensures.number)
-      ∙ sym (ap (value_at c.number-number.result) c.self.view_is)
-      ∙ not_found c.number-number.result c.in_default.field-0 c.self.inside.pages.items c.self.invariant.0.pages gap)
+    sym (ap (λ n. value_at n c.args.self.now) c.number-number.ensures.number)
+    ∙ sym (ap (value_at c.number-number.result) c.self.view_is)
+    ∙ not_found c.number-number.result c.in_default.field-0 c.self.inside.pages.items c.self.invariant.0.pages gap)
 
 pub returns-in_default-clause-len : goal.returns-in_default-clause-len
 returns-in_default-clause-len g c =
@@ -41,10 +41,10 @@ pub returns-else-has-clause-entries : goal.returns-else-has-clause-entries
 returns-else-has-clause-entries g c =
     let at = subst (IsAt (c.number-number.result / 16) c.in-Ok.place) c.as_slice.ensures.value c.in-Ok.ensures in
     remove_none (is_at (nat_cmp (g.K.Key.number c.args.key.now))) c.args.self.now.entries (
-      sym (ap (λ n. value_at n c.args.self.now) c.number-number.ensures.number)
-      ∙ sym (ap (value_at c.number-number.result) c.self.view_is)
-      ∙ found c.number-number.result c.in-Ok.place c.index.result.now c.self.inside.pages.items c.self.invariant.0.pages at c.index.ensures
-      ∙ has_none _ (sym c.has.ensures ∙ c.if-has.false))
+    sym (ap (λ n. value_at n c.args.self.now) c.number-number.ensures.number)
+    ∙ sym (ap (value_at c.number-number.result) c.self.view_is)
+    ∙ found c.number-number.result c.in-Ok.place c.index.result.now c.self.inside.pages.items c.self.invariant.0.pages at c.index.ensures
+    ∙ has_none _ (sym c.has.ensures ∙ c.if-has.false))
 
 pub returns-else-has-clause-len : goal.returns-else-has-clause-len
 returns-else-has-clause-len g c =
