@@ -10,7 +10,7 @@ use Rattle.session_run.specs.Kinds.{Kind}
 use Rattle.session_run.specs.Newlines.{BeginsWithLine, has_newline}
 use Rattle.session_run.specs.Players.{AddsSummary, IsPlaying, PlaysLine}
 use Rattle.session_run.specs.Runs.{Adds, AtEnd, Begins, CausedBy, EndsText, Finishes, Halts, HaltsAs, Judged, Refills, RunIs, Steps, TakesLine, Writes}
-use Rattle.session_run.specs.Tells.{IsLast, Replayed, Tells, TellsAs, TellsFront, numbered_line}
+use Rattle.session_run.specs.Tells.{Replayed, Tells, TellsAs, TellsFront, numbered_line}
 use Rattle.session_run.specs.declared.player.Went.{Went}
 use Rattle.session_run.specs.declared.run.Run.{Run}
 use Rattle.session_run.specs.declared.status.Status.{Status}

@@ -21,12 +21,6 @@ pub fn no_memory(_: NoMemory) -> anyhow::Error {
     anyhow!("out of memory")
 }
 
-// The error is made apart, so that no event that goes well pays for it.
-#[inline(never)]
-fn dispatch_failed() -> anyhow::Error {
-    anyhow!("a dispatch failed")
-}
-
 /// What events took: nanoseconds of processor time, and how many notes the last of them wrote.
 #[derive(Clone, Copy)]
 pub struct Cost {
@@ -79,9 +73,7 @@ impl Rig {
     pub fn go(&mut self, event: &Event) -> anyhow::Result<()> {
         self.notes.clear();
         let went = self.core.dispatch(&WireSteps, event, &mut self.notes);
-        if went.is_err() {
-            return Err(dispatch_failed());
-        }
+        ensure!(went.is_ok(), "a dispatch failed");
         Ok(())
     }
 

@@ -26,15 +26,12 @@ loop-rest-preserved g c =
       no_fall = omega (arith, c.loop-rest.invariant.no_fall, c.in_ok-n.ensures.cause.no_fall);
     }
 
-pub returns-then-n-len-clause-ok : goal.returns-then-n-len-clause-ok
-returns-then-n-len-clause-ok g c =
+pub returns-then-n-rest-clause-front : goal.returns-then-n-rest-clause-front
+returns-then-n-rest-clause-front g c =
     let w = c.loop-rest.invariant.written in
-    all_taken _ _ _ _ w.0 c.loop-rest.rest.now c.in_ok-n.n w.1 (omega (arith, c.if-n-len.true, c.len.ensures)) w.2 c.in_ok-n.ensures.octets
-
-pub returns-then-n-len-clause-front : goal.returns-then-n-len-clause-front
-returns-then-n-len-clause-front g c = record {
-  front = c.args.text.now;
-  rest = [];
-  is = sym (append-nil c.args.text.now);
-  appends = returns-then-n-len-clause-ok g c;
-}
+    record {
+      front = c.args.text.now;
+      rest = [];
+      is = sym (append-nil c.args.text.now);
+      appends = all_taken _ _ _ _ w.0 c.loop-rest.rest.now c.in_ok-n.n w.1 (omega (arith, c.if-n-rest.true)) w.2 c.in_ok-n.ensures.octets;
+    }

@@ -19,18 +19,18 @@ taken_at c =
     let left = left_behind (preface_left v.prefaced) frames v.unread c.as_slice-unread.result.now c.in-Whole.used c.as_slice-unread.ensures c.in-Ok.ensures.frames in
     takes c.args.max v w c.in-Ok-take.taken (view c.in-Whole.frame) frames c.in-Whole.used behind c.in-Whole.ensures.reads.1 (c.take-in-Whole.ensures ∙ left) means refl
 
-pub returns-in-Whole-clause-next : goal.returns-in-Whole-clause-next
-returns-in-Whole-clause-next c =
+pub returns-in-Ok-take-clause-next : goal.returns-in-Ok-take-clause-next
+returns-in-Ok-take-clause-next c =
     subst (λ (x : Incoming). TakesFrame c.args.max x c.in-Ok-take.taken (the_view (record { unread = c.take-in-Whole.new.self; prefaced = true; reader = c.take.new.self }))) c.self.view_is (taken_at c)
 
-pub returns-in-Whole-clause-inside : goal.returns-in-Whole-clause-inside
-returns-in-Whole-clause-inside c =
+pub returns-in-Ok-take-clause-inside : goal.returns-in-Ok-take-clause-inside
+returns-in-Ok-take-clause-inside c =
     let w : Incoming = the_view (record { unread = c.take-in-Whole.new.self; prefaced = true; reader = c.take.new.self }) in
     subst (λ (x : Incoming). IsWithin c.args.max x c.in-Ok-take.taken w) c.self.view_is
     (within c.args.max (the_view c.self.inside) w c.in-Ok-take.taken (taken_at c) c.in-Ok-take.ensures.numbered c.in-Ok-take.ensures.few)
 
-pub content_before-requires : goal.content_before-requires
-content_before-requires c =
+pub content_before-content-requires : goal.content_before-content-requires
+content_before-content-requires c =
     let v : Incoming = the_view c.self.inside in
     ends_at c.args.max (preface_left v.prefaced) c.in-Ok.frames.now v.unread c.as_slice-unread.result.now c.in-Whole.used (view c.in-Whole.frame)
     c.as_slice-unread.ensures c.in-Ok.ensures.frames c.in-Whole.ensures.reads.0 c.in-Whole.ensures.reads.1
