@@ -9,7 +9,6 @@ pub mod Passing
 pub mod Readings
 pub mod Ready
 pub mod Refills
-pub mod Renewing
 pub mod Row
 pub mod Sound
 pub mod Ticks

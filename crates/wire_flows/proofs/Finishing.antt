@@ -44,8 +44,8 @@ same_length (x ∷ xs) (suc i) y = let rest = same_length xs i y in omega (arith
 
 -- ---- what the exchanges answered
 pub absent : (o : Option Flow) (there : Bool) → there ≡ false → (is_some o ≡ true → there ≡ true) → o ≡ None
-absent None there no is = refl
-absent (Some flow) there no is = absurd (false≢true (sym no ∙ is refl))
+absent None there lacks is = refl
+absent (Some flow) there lacks is = absurd (false≢true (sym lacks ∙ is refl))
 
 pub record StepIs (g : Flow → Step) (o : Option Flow) (t : Step) : Type 0 where
   pub flow : Flow
