@@ -83,17 +83,24 @@ impl Ready {
     #[inline(always)]
     fn least(&self, after: u64, room: i64) -> Option<NextUnit> {
         let free = self.free.next_above(after);
-        let body = if room > 0 {
-            self.body.next_above(after)
-        } else {
-            None
-        };
-        match (free, body) {
-            (Some(free), Some(body)) if free < body => Some(NextUnit::Flow(free)),
-            (_, Some(body)) => Some(NextUnit::Body(body)),
-            (Some(free), None) => Some(NextUnit::Flow(free)),
-            (None, None) => None,
+        if room > 0
+            && let Some(body) = self.body.next_above(after)
+        {
+            return Some(lesser(free, body));
         }
+        match free {
+            Some(exchange) => Some(NextUnit::Flow(exchange)),
+            None => None,
+        }
+    }
+}
+
+// Of an exchange whose unit needs no window, if there is one, and one with octets, the unit of the lesser.
+#[inline(always)]
+fn lesser(free: Option<u64>, body: u64) -> NextUnit {
+    match free {
+        Some(free) if free < body => NextUnit::Flow(free),
+        _ => NextUnit::Body(body),
     }
 }
 

@@ -26,7 +26,7 @@ spend-requires c = λ l.
     let r = subst (λ (z : ℤ). c.in-Some.framed.n ≤ octets_of z) (to_z-of_z w64 c.unwrap_or-room.result (record { sfits = c.unwrap_or-room.type_inv })) w.1 in
     let m = subst (λ (z : ℤ). c.in-Some.framed.n ≤ octets_of z) (to_z-of_z w64 c.min-most.result (record { sfits = c.min-most.type_inv })) w.2 in
     let b = subst (λ (z : ℤ). c.min-most.result ≤ℤ z) (to_z-of_z w64 c.conn_room.result (record { sfits = c.conn_room.type_inv })) c.min-most.ensures.self_bound in
-    within_both c.args.flow.exchange c.in-Some.framed.n c.args.self.now.windows.send c.room.result c.unwrap_or-room.result c.min-most.result l c.room.ensures c.unwrap_or-room.ensures r m (b ∙ c.conn_room.ensures)
+    within_both c.args.flow.exchange c.in-Some.framed.n c.args.self.now.windows.send c.room.result c.unwrap_or-room.result c.min-most.result l c.room.ensures c.unwrap_or-room.ensures r m (subst (λ (z : ℤ). c.min-most.result ≤ℤ z) c.conn_room.ensures b)
 
 pub returns-clause-kept : goal.returns-clause-kept
 returns-clause-kept c = λ limits q k.
