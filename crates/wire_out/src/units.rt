@@ -77,11 +77,7 @@ pub(crate) fn frame_octets(
 }
 
 // A DATA frame of a flow, or what else of it goes next.
-fn frame_body_first(
-    core: &mut WireCore,
-    going: Going,
-    notes: &mut Notes,
-) -> Result<(), NoMemory>
+fn frame_body_first(core: &mut WireCore, going: Going, notes: &mut Notes) -> Result<(), NoMemory>
     requires sound { IsSound core.old }
     requires top { top_go core.old.agenda ≡ 1 }
     requires there { IsThere core.old.flows going.course.flow }
