@@ -4,6 +4,7 @@ ghost use Rattle.flow_notes.specs.declared.notes.Note.TheVariants as note;
 ghost use Rattle.std.specs.Prelude.{◌≡◌, ◌≤◌, ◌+◌, IfNone, IfOk, IfSome, IsSome, MatchOption, OnOk, true, ◌++◌, ◌∷◌, [], Some};
 ghost use Rattle.wire_flows.specs.Writes.{watchers_on};
 ghost use Rattle.wire_flows.specs.Flows.{IsThere, flow_in, is_live_in};
+ghost use Rattle.wire_links.specs.Links.{ends_of};
 ghost use Rattle.wire_out.specs.Opening.{IsUnframed};
 ghost use Rattle.wire_state.specs.Agenda.{stirred_at, top_go};
 ghost use Rattle.wire_state.specs.Noting.{Appends, framed_of, told_of};
@@ -31,7 +32,6 @@ pub(crate) struct Going {
 
 /// The next unit of the flow of an exchange that goes to a connection that is drained. Where there is none, the exchange isn't
 /// ready any more.
-#[tactic(auto, using(crate::proofs::Framing::as_list))]
 pub(crate) fn frame_flow(
     core: &mut WireCore,
     conn: u32,
@@ -49,12 +49,69 @@ pub(crate) fn frame_flow(
         unready(core, conn, exchange);
         return Ok(());
     };
+    frame_going(core, going, notes)
+}
+
+/// As `frame_flow`, where octets of the body went next when the flow was last asked. Mostly they still do, and then it isn't
+/// asked again.
+pub(crate) fn frame_octets(
+    core: &mut WireCore,
+    conn: u32,
+    exchange: u64,
+    notes: &mut Notes,
+) -> Result<(), NoMemory>
+    requires sound { IsSound core.old }
+    requires top { top_go core.old.agenda ≡ 1 }
+    ensures sound { OnOk result (IsSound core.new) }
+    ensures go { OnOk result (to_go core.new + (1 + stirred_at conn core.old.stirred.conns.items) ≤ to_go core.old) }
+    ensures notes { Appends notes.old notes.new }
+    ensures octets { Goes result core.old notes.old core.new notes.new }
+{
+    let Some(going) = going_to(core, conn, exchange) else {
+        unready(core, conn, exchange);
+        return Ok(());
+    };
+    // A flow that goes somewhere is live.
+    core.flows.are_sound();
+    frame_body_first(core, going, notes)
+}
+
+// A DATA frame of a flow, or what else of it goes next.
+fn frame_body_first(core: &mut WireCore, going: Going, notes: &mut Notes) -> Result<(), NoMemory>
+    requires sound { IsSound core.old }
+    requires top { top_go core.old.agenda ≡ 1 }
+    requires there { IsThere core.old.flows going.course.flow }
+    requires unframed { IfNone going.stream (IsUnframed going.conn going.course.flow.exchange core.old.links) }
+    requires stream { going.stream ≡ stream_in core.old.links going.course.flow }
+    ensures sound { OnOk result (IsSound core.new) }
+    ensures go { OnOk result (to_go core.new + (1 + stirred_at going.conn core.old.stirred.conns.items) ≤ to_go core.old) }
+    ensures notes { Appends notes.old notes.new }
+    ensures octets { Goes result core.old notes.old core.new notes.new }
+{
+    let Some(framed) = write_body(core, going)? else {
+        return frame_going(core, going, notes);
+    };
+    body_framed(core, going, framed, notes)
+}
+
+// The unit of a flow that goes next.
+#[tactic(auto, using(crate::proofs::Framing::as_list))]
+fn frame_going(core: &mut WireCore, going: Going, notes: &mut Notes) -> Result<(), NoMemory>
+    requires sound { IsSound core.old }
+    requires top { top_go core.old.agenda ≡ 1 }
+    requires unframed { IfNone going.stream (IsUnframed going.conn going.course.flow.exchange core.old.links) }
+    requires stream { going.stream ≡ stream_in core.old.links going.course.flow }
+    ensures sound { OnOk result (IsSound core.new) }
+    ensures go { OnOk result (to_go core.new + (1 + stirred_at going.conn core.old.stirred.conns.items) ≤ to_go core.old) }
+    ensures notes { Appends notes.old notes.new }
+    ensures octets { Goes result core.old notes.old core.new notes.new }
+{
     match unit_of(core, going) {
         Some(Unit::Head { last }) => frame_list(core, going, last, notes),
         Some(Unit::Trailers) => frame_list(core, going, true, notes),
         Some(Unit::Body { .. }) => frame_body(core, going, notes),
         Some(Unit::Nothing) | None => {
-            unready(core, conn, exchange);
+            unready(core, going.conn, going.course.flow.exchange);
             Ok(())
         }
     }
@@ -64,6 +121,7 @@ pub(crate) fn frame_flow(
 fn going_to(core: &WireCore, conn: u32, exchange: u64) -> Option<Going>
     ensures conn { IfSome result (λ going. going.conn ≡ conn) }
     ensures exchange { IfSome result (λ going. going.course.flow.exchange ≡ exchange) }
+    ensures linked { IfSome result (λ going. IsSome (ends_of going.course.flow.exchange core.entry.now.links)) }
     ensures unframed { IfSome result (λ going. IfNone going.stream (IsUnframed conn exchange core.entry.now.links)) }
     ensures stream { IfSome result (λ going. going.stream ≡ stream_in core.entry.now.links going.course.flow) }
 {
@@ -157,11 +215,27 @@ fn frame_body(core: &mut WireCore, going: Going, notes: &mut Notes) -> Result<()
     ensures notes { Appends notes.old notes.new }
     ensures octets { Goes result core.old notes.old core.new notes.new }
 {
-    let flow = going.course.flow;
     let Some(framed) = write_body(core, going)? else {
-        unready(core, going.conn, flow.exchange);
+        unready(core, going.conn, going.course.flow.exchange);
         return Ok(());
     };
+    body_framed(core, going, framed, notes)
+}
+
+// A DATA frame of a flow went into the write buffer: it is noted, with what it begins.
+fn body_framed(
+    core: &mut WireCore,
+    going: Going,
+    framed: Framed,
+    notes: &mut Notes,
+) -> Result<(), NoMemory>
+    requires sound { IsSound core.old }
+    ensures sound { OnOk result (IsSound core.new) }
+    ensures go { OnOk result (to_go core.new + (1 + stirred_at going.conn core.old.stirred.conns.items) ≤ to_go core.old + 40) }
+    ensures notes { Appends notes.old notes.new }
+    ensures octets { Goes result core.old (notes.old ++ framed_of going.conn going.course.flow framed (watchers_on going.conn core.old.flows)) core.new notes.new }
+{
+    let flow = going.course.flow;
     core.stir_course(going.course)?;
     core.touch(flow.exchange)?;
     note(

@@ -291,9 +291,8 @@ impl Conn {
         if !is_stream(stream) || !self.may_write() {
             return Ok(None);
         }
-        let within = self.room(flow.exchange);
-        let most = within.min(i64::from(quantum));
         let room = self.windows.send.room(flow.exchange).unwrap_or(0);
+        let most = self.windows.send.conn_room().min(i64::from(quantum));
         let payload = self.windows.send.payload();
         let out = self.outlet.write_mut();
         let Some(framed) = flows.frame_body(flow, number, stream, out, room, most, payload)? else {

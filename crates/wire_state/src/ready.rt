@@ -1,4 +1,5 @@
 // Which exchanges may have a unit for a connection.
+use crate::units::NextUnit;
 use exchange_core::Unit;
 use io_ports::NoMemory;
 use number_set::NumberSet;
@@ -65,32 +66,41 @@ impl Ready {
         if grew { &self.held } else { &self.body }
     }
 
-    /// The exchange whose unit goes next after that of another, in rotation, where the connection's window has this room.
+    /// The unit that goes next after that of an exchange, in rotation, where the connection's window has this room.
     #[inline(always)]
-    pub fn next(&self, after: u64, room: i64) -> Option<u64> {
+    pub fn next(&self, after: u64, room: i64) -> Option<NextUnit> {
         // Most connections that are looked at have none.
         if self.free.len() == 0 && self.body.len() == 0 {
             return None;
         }
         match self.least(after, room) {
-            Some(exchange) => Some(exchange),
+            Some(unit) => Some(unit),
             None => self.least(0, room),
         }
     }
 
-    // The least exchange above a number that has a unit for which there is room.
+    // The unit of the least exchange above a number that has one for which there is room.
     #[inline(always)]
-    fn least(&self, after: u64, room: i64) -> Option<u64> {
+    fn least(&self, after: u64, room: i64) -> Option<NextUnit> {
         let free = self.free.next_above(after);
-        if room <= 0 {
-            return free;
+        if room > 0
+            && let Some(body) = self.body.next_above(after)
+        {
+            return Some(lesser(free, body));
         }
-        let body = self.body.next_above(after);
-        match (free, body) {
-            (Some(one), Some(other)) => Some(one.min(other)),
-            (Some(one), None) => Some(one),
-            (None, other) => other,
+        match free {
+            Some(exchange) => Some(NextUnit::Flow(exchange)),
+            None => None,
         }
+    }
+}
+
+// Of an exchange whose unit needs no window, if there is one, and one with octets, the unit of the lesser.
+#[inline(always)]
+fn lesser(free: Option<u64>, body: u64) -> NextUnit {
+    match free {
+        Some(free) if free < body => NextUnit::Flow(free),
+        _ => NextUnit::Body(body),
     }
 }
 

@@ -20,8 +20,10 @@ pub enum NextUnit {
     Credit,
     /// A WINDOW_UPDATE of the stream of an exchange.
     StreamCredit(u64),
-    /// A unit of a flow of an exchange that goes to it.
+    /// A unit of a flow of an exchange that goes to it: a head, trailers, or an empty frame for the end.
     Flow(u64),
+    /// Octets of the body of such a flow. Something else of it may have come before them since.
+    Body(u64),
 }
 
 impl Conn {
@@ -45,10 +47,7 @@ impl Conn {
             return Some(NextUnit::StreamCredit(exchange));
         }
         let room = self.windows.send.conn_room();
-        match self.ready.next(self.framed_last, room) {
-            Some(exchange) => Some(NextUnit::Flow(exchange)),
-            None => None,
-        }
+        self.ready.next(self.framed_last, room)
     }
 
     // The least exchange whose stream is due a WINDOW_UPDATE and that nothing holds back.

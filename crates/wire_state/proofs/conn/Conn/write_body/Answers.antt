@@ -8,7 +8,7 @@ use Rattle.std.specs.Prelude.{false, is_some, length, not, pos, take, ℤ, ◌&&
 use Rattle.wire_flows.specs.Flows.{flow_in}
 use Rattle.wire_outlet.specs.Outgoing.{Outgoing}
 use Rattle.wire_state.proofs.Grown.{framed_fills}
-use Rattle.wire_state.proofs.Rooms.{body_kept, of_some, within_quantum, within_room}
+use Rattle.wire_state.proofs.Rooms.{body_kept, of_some, within_both, within_quantum}
 use Rattle.wire_state.proofs.conn.Conn.write_body.Goals as goal
 use Rattle.wire_state.specs.Counts.{Fills}
 use Rattle.wire_state.specs.Sound.{IsKept}
@@ -23,9 +23,10 @@ returns-in_default-clause-kept c = λ limits q k.
 pub spend-requires : goal.spend-requires
 spend-requires c = λ l.
     let w = rw c.in-Some.is at c.in_ok-framed.ensures.within in
+    let r = subst (λ (z : ℤ). c.in-Some.framed.n ≤ octets_of z) (to_z-of_z w64 c.unwrap_or-room.result (record { sfits = c.unwrap_or-room.type_inv })) w.1 in
     let m = subst (λ (z : ℤ). c.in-Some.framed.n ≤ octets_of z) (to_z-of_z w64 c.min-most.result (record { sfits = c.min-most.type_inv })) w.2 in
-    let b = subst (λ (z : ℤ). c.min-most.result ≤ℤ z) (to_z-of_z w64 c.room-within.result (record { sfits = c.room-within.type_inv })) c.min-most.ensures.self_bound in
-    c.room-within.ensures c.in-Some.framed.n l (within_room c.in-Some.framed.n c.min-most.result c.room-within.result l m b)
+    let b = subst (λ (z : ℤ). c.min-most.result ≤ℤ z) (to_z-of_z w64 c.conn_room.result (record { sfits = c.conn_room.type_inv })) c.min-most.ensures.self_bound in
+    within_both c.args.flow.exchange c.in-Some.framed.n c.args.self.now.windows.send c.room.result c.unwrap_or-room.result c.min-most.result l c.room.ensures c.unwrap_or-room.ensures r m (subst (λ (z : ℤ). c.min-most.result ≤ℤ z) c.conn_room.ensures b)
 
 pub returns-clause-kept : goal.returns-clause-kept
 returns-clause-kept c = λ limits q k.

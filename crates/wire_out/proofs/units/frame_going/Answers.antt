@@ -1,5 +1,5 @@
 use Rattle.wire_out.proofs.Framing.{as_list}
-use Rattle.wire_out.proofs.units.frame_flow.Goals as goal
+use Rattle.wire_out.proofs.units.frame_going.Goals as goal
 
 pub frame_list-requires-clause-unit : goal.frame_list-requires-clause-unit
 frame_list-requires-clause-unit c = rw c.in-Some-Head.field-0-is at c.in-Some-Head.ensures.unit
