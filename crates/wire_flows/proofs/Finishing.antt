@@ -11,25 +11,23 @@ use Rattle.filter_chain.specs.Place.{Place}
 use Rattle.flow_gate.proofs.SameIds.{same_flow-refl, same_flow_exact}
 use Rattle.flow_gate.specs.Board.{Board, IsSound as AreSoundGates, is_known, is_marked, watchers_of}
 use Rattle.flow_gate.specs.Ids.{same_flow}
-use Rattle.flow_rules.specs.declared.ids.BufferId.{BufferId}
 use Rattle.flow_rules.specs.declared.ids.FlowId.{FlowId}
 use Rattle.io_ports.specs.declared.octets.NoMemory.{NoMemory}
 use Rattle.std.proofs.Common.{ap, arith, refl, subst, sym, ◌∙◌}
 use Rattle.std.proofs.lemmas.Bool.{false≢true}
 use Rattle.std.proofs.lemmas.Option.{none-some, same_Some}
-use Rattle.std.specs.Option.{option_map_or}
-use Rattle.std.specs.Prelude.{Bool, Err, IfSome, List, None, Ok, OnErr, Option, Result, Some, [], false, if◌then◌else◌, is_some, length, option_map, set, suc, true, zero, ℕ, ◌+◌, ◌-◌, ◌<◌, ◌==◌, ◌∷◌, ◌≡◌, ◌≤◌}
+use Rattle.std.specs.Prelude.{Bool, Err, IfSome, List, None, Ok, OnErr, Option, Result, Some, [], false, if◌then◌else◌, is_some, length, option_map, set, suc, true, zero, ℕ, ◌+◌, ◌-◌, ◌<◌, ◌==◌, ◌∷◌, ◌≡◌}
 use Rattle.wire_flows.proofs.Answering.{keeps_same}
 use Rattle.wire_flows.proofs.Cases.{by_case}
 use Rattle.wire_flows.proofs.Crossable.{any_drained, may_cross}
-use Rattle.wire_flows.proofs.Found.{flow_after, flow_is, name_is}
+use Rattle.wire_flows.proofs.Found.{flow_after, flow_is}
 use Rattle.wire_flows.proofs.Freed.{found_at}
 use Rattle.wire_flows.proofs.Leaving.{Leaves, idles, leaves}
 use Rattle.wire_flows.proofs.Stepped.{come, first_places, gained, gone, later_places}
 use Rattle.wire_flows.proofs.Stepping.{still_stays}
 use Rattle.wire_flows.proofs.Steps.{Goes, before_last, goes_of, is_moving, next}
 use Rattle.wire_flows.specs.Begins.{Crosses, lows_left}
-use Rattle.wire_flows.specs.Flows.{ChangesLeft, Flows, flow_in, goes_to, left_in}
+use Rattle.wire_flows.specs.Flows.{Flows, flow_in, goes_to, left_in}
 use Rattle.wire_flows.specs.Moves.{MayCross, StepCrosses, StepMayCross, is_high, is_low, outcome_of}
 use Rattle.wire_flows.specs.Sound.{IsSound, MarksAre}
 use Rattle.wire_flows.specs.declared.moving.Outcome.{Outcome}
