@@ -112,17 +112,17 @@ impl Buffers {
         }
     }
 
-    /// The receive buffer of a flow that nobody watches is no longer known.
+    /// The receive buffer of a flow is no longer known, if nobody watches it.
     pub(crate) fn close_recv(&mut self, flow: FlowId, spares: &mut Spares)
         ensures { (b : BufferId) → buffer_at self.new b ≡ (if same_buffer (BufferId.Recv flow) b then kept (buffer_at self.old b) else buffer_at self.old b) }
     {
-        // In most sessions no flow has one.
+        // No session opens the gate of a receive buffer: then there is none to look for.
         if !self.recvs.is_empty() {
             close_unwatched(&mut self.recvs, spares, flow);
         }
     }
 
-    /// The send buffer of a flow that nobody watches is no longer known.
+    /// The send buffer of a flow is no longer known, if nobody watches it.
     pub(crate) fn close_send(&mut self, flow: FlowId, spares: &mut Spares)
         ensures { (b : BufferId) → buffer_at self.new b ≡ (if same_buffer (BufferId.Send flow) b then kept (buffer_at self.old b) else buffer_at self.old b) }
     {

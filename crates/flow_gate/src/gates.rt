@@ -362,7 +362,7 @@ fn close_unwatched(buffers: &mut Buffers, spares: &mut Spares, buffer: BufferId)
     }
 }
 
-// The stages of a flow that nobody watches are no longer known.
+// The stages of a flow are no longer known, but for those that somebody watches.
 fn close_stages(buffers: &mut Buffers, spares: &mut Spares, flow: FlowId)
     ensures { (b : BufferId) → buffer_at buffers.new b ≡ (if is_stage flow b then kept (buffer_at buffers.old b) else buffer_at buffers.old b) }
 {
