@@ -105,6 +105,7 @@ impl Flow {
         }
         self.message.clear();
         self.multiple = multiple;
+        // The buffer has room for the window that it had, so more is asked for only where the new one is larger.
         if self.window < spec.recv {
             self.recv.ready(recv_room(0, spec))?;
         }
