@@ -114,6 +114,7 @@ impl Stage {
         ensures room { KeepsRoom self.old self.new }
     {
         let held = self.buffer.len();
+        // An empty buffer is never above. That is asked all the same: the clause on the place is proved from the answer.
         if held > 0 || self.buffer.is_above() {
             let _ = self.buffer.take(held);
         }
