@@ -1,5 +1,5 @@
 // A stage of a flow. The send buffer counts as the last one.
-ghost use Rattle.std.specs.Prelude.{◌≡◌, ◌+◌, ◌-◌, ◌<◌, ◌≤◌, ◌^◌, ◌++◌, ◌==◌, ◌≢◌, ◌↔◌, ◌&&◌, ◌∷◌, [], length, drop, take, nat_lt, IsTrue, IsOk, OnOk, OnErr, IfOk};
+ghost use Rattle.std.specs.Prelude.{◌≡◌, ◌+◌, ◌-◌, ◌<◌, ◌≤◌, ◌^◌, ◌++◌, ◌==◌, ◌↔◌, ◌&&◌, [], length, drop, take, IsTrue, IsOk, OnOk, OnErr, IfOk};
 ghost use Rattle.filter_chain.specs.Place.{beyond, empty_place, gaining, holding, is_hold, is_source, letting_go, losing, rate_of, refilled};
 ghost use Rattle.filter_chain.specs.Release.{is_overfilled_by};
 ghost use Rattle.wm_buffer.specs.Buffer.{AppendsOctets, DropsOctets};
