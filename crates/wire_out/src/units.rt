@@ -31,8 +31,8 @@ pub(crate) struct Going {
 }
 
 /// The next unit of the flow of an exchange that goes to a connection that is drained. Where there is none, the exchange isn't
-/// ready any more. With `body` octets of the body went next when the flow was last asked. Mostly they still do, and then it isn't
-/// asked again.
+/// ready any more. Where `body` is true, octets of the body went next when the flow was last asked: mostly they still do, and then
+/// it isn't asked again.
 pub(crate) fn frame_flow(
     core: &mut WireCore,
     conn: u32,
