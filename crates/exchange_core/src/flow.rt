@@ -80,7 +80,8 @@ impl Flow {
         })
     }
 
-    /// An empty flow without stages, as `new` makes it. The answer is false where the buffers of this one aren't fit for it.
+    /// An empty flow without stages, as `new` makes it. The answer is false where the buffers of this one aren't fit for it, or
+    /// its receive buffer holds octets.
     pub(crate) fn renew(
         &mut self,
         id: FlowId,
@@ -93,18 +94,15 @@ impl Flow {
         ensures begun { IfOk result (λ fits. fits ≡ true → self.new ≡ begun_flow id [] spec.entry.now multiple) }
         ensures sound { IsSound self.new }
     {
-        if self.quantum != spec.quantum {
+        if self.quantum != spec.quantum || !self.recv.is_empty() {
             return Ok(false);
         }
         if !self.chain.renew(id, spec.send, spec.now) {
             return Ok(false);
         }
-        let held = self.recv.len();
-        if held > 0 {
-            let _ = self.recv.take(held);
-        }
         self.message.clear();
         self.multiple = multiple;
+        // The buffer has room for the window that it had, so more is asked for only where the new one is larger.
         if self.window < spec.recv {
             self.recv.ready(recv_room(0, spec))?;
         }

@@ -1,5 +1,5 @@
 // A stage of a flow. The send buffer counts as the last one.
-ghost use Rattle.std.specs.Prelude.{◌≡◌, ◌+◌, ◌-◌, ◌<◌, ◌≤◌, ◌^◌, ◌++◌, ◌==◌, ◌≢◌, ◌↔◌, ◌&&◌, ◌∷◌, [], length, drop, take, nat_lt, IsTrue, IsOk, OnOk, OnErr, IfOk};
+ghost use Rattle.std.specs.Prelude.{◌≡◌, ◌+◌, ◌-◌, ◌<◌, ◌≤◌, ◌^◌, ◌++◌, ◌==◌, ◌↔◌, ◌&&◌, [], length, drop, take, IsTrue, IsOk, OnOk, OnErr, IfOk};
 ghost use Rattle.filter_chain.specs.Place.{beyond, empty_place, gaining, holding, is_hold, is_source, letting_go, losing, rate_of, refilled};
 ghost use Rattle.filter_chain.specs.Release.{is_overfilled_by};
 ghost use Rattle.wm_buffer.specs.Buffer.{AppendsOctets, DropsOctets};
@@ -114,6 +114,7 @@ impl Stage {
         ensures room { KeepsRoom self.old self.new }
     {
         let held = self.buffer.len();
+        // An empty buffer is never above. That is asked all the same: the clause on the place is proved from the answer.
         if held > 0 || self.buffer.is_above() {
             let _ = self.buffer.take(held);
         }

@@ -99,30 +99,44 @@ impl Buffers {
         }
     }
 
-    /// From now on the buffer isn't known. Answers its gate. Takes no memory.
-    pub(crate) fn remove(&mut self, buffer: BufferId) -> Option<Gate>
-        ensures value { result ≡ buffer_at self.old buffer }
-        ensures updates { Updates same_buffer buffer None self.old self.new }
+    /// From now on the buffer isn't known. Takes no memory.
+    pub(crate) fn discard(&mut self, buffer: BufferId)
+        ensures { Updates same_buffer buffer None self.old self.new }
     {
         match buffer {
-            BufferId::Write(conn) => self.writes.remove(&conn),
-            BufferId::Recv(flow) => self.recvs.remove(flow),
-            BufferId::Stage(flow, stage) => self.stages.remove(&StageId { flow, stage }),
-            BufferId::Send(flow) => self.sends.remove(flow),
+            BufferId::Write(conn) => self.writes.discard(&conn),
+            BufferId::Recv(flow) => self.recvs.discard(flow),
+            BufferId::Stage(flow, stage) => {
+                let _ = self.stages.remove(&StageId { flow, stage });
+            }
+            BufferId::Send(flow) => self.sends.discard(flow),
         }
     }
 
-    /// The receive buffer of a flow that nobody watches is no longer known.
+    /// The receive buffer of a flow is no longer known, if nobody watches it.
     pub(crate) fn close_recv(&mut self, flow: FlowId, spares: &mut Spares)
         ensures { (b : BufferId) → buffer_at self.new b ≡ (if same_buffer (BufferId.Recv flow) b then kept (buffer_at self.old b) else buffer_at self.old b) }
     {
-        // In most sessions no flow has one.
+        // No session opens the gate of a receive buffer: then there is none to look for.
         if !self.recvs.is_empty() {
             close_unwatched(&mut self.recvs, spares, flow);
         }
     }
 
-    /// The send buffer of a flow that nobody watches is no longer known.
+    /// A stage of a flow is no longer known, if nobody watches it.
+    pub(crate) fn close_stage(&mut self, flow: FlowId, stage: u32, spares: &mut Spares)
+        ensures { (b : BufferId) → buffer_at self.new b ≡ (if same_buffer (BufferId.Stage flow stage) b then kept (buffer_at self.old b) else buffer_at self.old b) }
+    {
+        let buffer = BufferId::Stage(flow, stage);
+        if let Some(gate) = self.get_mut(buffer) {
+            if !gate.is_watched() {
+                spares.keep_memory(gate);
+                self.discard(buffer);
+            }
+        }
+    }
+
+    /// The send buffer of a flow is no longer known, if nobody watches it.
     pub(crate) fn close_send(&mut self, flow: FlowId, spares: &mut Spares)
         ensures { (b : BufferId) → buffer_at self.new b ≡ (if same_buffer (BufferId.Send flow) b then kept (buffer_at self.old b) else buffer_at self.old b) }
     {

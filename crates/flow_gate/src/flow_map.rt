@@ -89,20 +89,6 @@ impl<V> FlowMap<V> {
         }
     }
 
-    /// From now on the flow has no value. Answers what it had. Takes no memory.
-    pub(crate) fn remove(&mut self, flow: FlowId) -> Option<V>
-    where
-        V: Drop,
-        ensures value { result ≡ flow_at self.old flow }
-        ensures updates { Updates same_flow flow None self.old self.new }
-    {
-        if flow.back {
-            self.responses.remove(&flow.exchange)
-        } else {
-            self.requests.remove(&flow.exchange)
-        }
-    }
-
     /// From now on the flow has no value. What it had is dropped where it lies. Takes no memory.
     pub(crate) fn discard(&mut self, flow: FlowId)
     where

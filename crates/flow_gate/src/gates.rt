@@ -192,7 +192,7 @@ impl Gates {
         ensures closes { Closes buffer self.old self.new }
         ensures sound { IsSound self.new }
     {
-        let _ = self.buffers.remove(buffer);
+        self.buffers.discard(buffer);
     }
 
     /// Adds the flow as the last watcher of the buffer. Where the buffer is above, the flow's count grows by 1, and the answer
@@ -350,25 +350,13 @@ fn leave(buffers: &mut Buffers, watch: Watch)
     }
 }
 
-// A buffer that nobody watches is no longer known.
-fn close_unwatched(buffers: &mut Buffers, spares: &mut Spares, buffer: BufferId)
-    ensures { (b : BufferId) → buffer_at buffers.new b ≡ (if same_buffer buffer b then kept (buffer_at buffers.old b) else buffer_at buffers.old b) }
-{
-    if let Some(gate) = buffers.get_mut(buffer) {
-        if !gate.is_watched() {
-            spares.keep_memory(gate);
-            let _ = buffers.remove(buffer);
-        }
-    }
-}
-
-// The stages of a flow that nobody watches are no longer known.
+// The stages of a flow are no longer known, but for those that somebody watches.
 fn close_stages(buffers: &mut Buffers, spares: &mut Spares, flow: FlowId)
     ensures { (b : BufferId) → buffer_at buffers.new b ≡ (if is_stage flow b then kept (buffer_at buffers.old b) else buffer_at buffers.old b) }
 {
     let mut after = None;
     'stages: while let Some(stage) = buffers.stage_after(flow, after) {
-        close_unwatched(buffers, spares, BufferId::Stage(flow, stage));
+        buffers.close_stage(flow, stage, spares);
         after = Some(stage);
     }
 }

@@ -89,8 +89,8 @@ impl Values {
         }
     }
 
-    // One more value. What is least and greatest so far seldom changes, so nothing is stored there else: the next value of the number
-    // needn't wait for it.
+    // One more value. What is least and greatest so far seldom changes, so it is stored only where it changes: the next value of
+    // the number needn't wait for it.
     #[inline(always)]
     fn take(&mut self, value: u32)
         ensures last { self.new.last ≡ Some value }

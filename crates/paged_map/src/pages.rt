@@ -3,7 +3,7 @@ ghost use Rattle.number_set.specs.NumberMap.{IsAt, IsGap, IsSorted};
 ghost use Rattle.number_set.specs.NumberSet.{first, first_above};
 ghost use Rattle.paged_map.specs.Pages.{AreOrdered, IsIndex, entries_on, width};
 ghost use Rattle.std.specs.Map.{keys_of};
-ghost use Rattle.std.specs.Prelude.{◌≡◌, ◌<◌, IfOk, IfSome, MatchResult, OnErr, count_by, is_some, length};
+ghost use Rattle.std.specs.Prelude.{◌≡◌, ◌<◌, IfOk, IfSome, MatchResult, count_by, is_some, length};
 
 use crate::page::{Page, WIDTH};
 use io_ports::NoMemory;

@@ -35,8 +35,8 @@ abbrev pub IsSameFollower : Follower → Follower → Type 0
 IsSameFollower f g = (g.board ≡ f.board) × (g.seat ≡ f.seat)
 
 -- the one with the greater number, the first of two with the same
-abbrev pub newer : Entry → Entry → Entry
-newer d e = cond (nat_lt d.version e.version) e d
+abbrev pub later_of : Entry → Entry → Entry
+later_of d e = cond (nat_lt d.version e.version) e d
 
 -- publisher and follower are of one `make_shared`
 abbrev pub IsOf : Told → Follower → Type 0

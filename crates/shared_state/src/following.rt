@@ -3,7 +3,7 @@ ghost use Rattle.std.specs.Prelude.{◌≡◌, ◌≤◌, ◌<◌, ◌^◌, ◌�
 ghost use Rattle.left_right.specs.Sides.{view};
 ghost use Rattle.overload_core.specs.ActionStates.{actions_at};
 ghost use Rattle.shared_state.specs.Entries.{StartsWith};
-ghost use Rattle.shared_state.specs.Following.{seen, looks, IsSameEntry, IsSameFollower, newer, IsOf, triggers_of, resources_of};
+ghost use Rattle.shared_state.specs.Following.{seen, looks, IsSameEntry, IsSameFollower, later_of, IsOf, triggers_of, resources_of};
 ghost use Rattle.shared_state.specs.Published.{IsLast, Shows};
 ghost use Rattle.shared_state.specs.Version.{looked};
 
@@ -174,7 +174,7 @@ impl Follower {
     /// Learns what the publisher told: from now on it answers nothing older. Takes no memory.
     pub fn learn(&mut self, told: Told)
         requires { IsOf told self.old }
-        ensures kept { self.new.kept ≡ newer self.old.kept told.entry }
+        ensures kept { self.new.kept ≡ later_of self.old.kept told.entry }
         ensures same { IsSameFollower self.old self.new × (self.new.eye ≡ self.old.eye) }
     {
         if self.kept.version < told.entry.version {

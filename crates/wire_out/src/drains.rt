@@ -8,7 +8,7 @@ ghost use Rattle.wire_state.specs.Sound.{IsSound};
 ghost use Rattle.wire_state.specs.Worlds.{Goes, Keeps, Pays};
 
 use crate::controls::{frame_credit, frame_first_credit, frame_stream_credit, frame_waiting};
-use crate::units::{frame_flow, frame_octets};
+use crate::units::frame_flow;
 use flow_notes::Notes;
 use io_ports::NoMemory;
 use wire_flows::WireFlows;
@@ -177,8 +177,8 @@ fn frame_next(
         NextUnit::FirstCredit => frame_first_credit(core, number, notes),
         NextUnit::Credit => frame_credit(core, number, notes),
         NextUnit::StreamCredit(exchange) => frame_stream_credit(core, number, exchange, notes),
-        NextUnit::Flow(exchange) => frame_flow(core, number, exchange, notes),
-        NextUnit::Body(exchange) => frame_octets(core, number, exchange, notes),
+        NextUnit::Flow(exchange) => frame_flow(core, number, exchange, false, notes),
+        NextUnit::Body(exchange) => frame_flow(core, number, exchange, true, notes),
     }
 }
 

@@ -31,11 +31,13 @@ pub(crate) struct Going {
 }
 
 /// The next unit of the flow of an exchange that goes to a connection that is drained. Where there is none, the exchange isn't
-/// ready any more.
+/// ready any more. Where `body` is true, octets of the body went next when the flow was last asked: mostly they still do, and then
+/// it isn't asked again.
 pub(crate) fn frame_flow(
     core: &mut WireCore,
     conn: u32,
     exchange: u64,
+    body: bool,
     notes: &mut Notes,
 ) -> Result<(), NoMemory>
     requires sound { IsSound core.old }
@@ -49,31 +51,12 @@ pub(crate) fn frame_flow(
         unready(core, conn, exchange);
         return Ok(());
     };
+    if body {
+        // A flow that goes somewhere is live.
+        core.flows.are_sound();
+        return frame_body_first(core, going, notes);
+    }
     frame_going(core, going, notes)
-}
-
-/// As `frame_flow`, where octets of the body went next when the flow was last asked. Mostly they still do, and then it isn't
-/// asked again.
-pub(crate) fn frame_octets(
-    core: &mut WireCore,
-    conn: u32,
-    exchange: u64,
-    notes: &mut Notes,
-) -> Result<(), NoMemory>
-    requires sound { IsSound core.old }
-    requires top { top_go core.old.agenda ≡ 1 }
-    ensures sound { OnOk result (IsSound core.new) }
-    ensures go { OnOk result (to_go core.new + (1 + stirred_at conn core.old.stirred.conns.items) ≤ to_go core.old) }
-    ensures notes { Appends notes.old notes.new }
-    ensures octets { Goes result core.old notes.old core.new notes.new }
-{
-    let Some(going) = going_to(core, conn, exchange) else {
-        unready(core, conn, exchange);
-        return Ok(());
-    };
-    // A flow that goes somewhere is live.
-    core.flows.are_sound();
-    frame_body_first(core, going, notes)
 }
 
 // A DATA frame of a flow, or what else of it goes next.

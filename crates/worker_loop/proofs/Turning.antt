@@ -7,20 +7,20 @@ use Rattle.post_queue.specs.declared.posts.Post.{Post}
 use Rattle.shared_state.specs.Version.{looked}
 use Rattle.shared_state.specs.declared.entries.Entry.{Entry}
 use Rattle.shared_state.specs.declared.version_word.VersionView.{VersionView}
-use Rattle.std.proofs.Common.{All, ap, append_assoc, arith, inl, inr, refl, subst, sym, ◌∙◌, ◌⊎◌}
+use Rattle.std.proofs.Common.{All, ap, arith, inl, inr, refl, subst, sym, ◌∙◌, ◌⊎◌}
 use Rattle.std.proofs.lemmas.List.{append-nil}
-use Rattle.std.specs.Prelude.{Bool, Err, List, Ok, Option, Result, [], length, map, take, ℕ, ◌++◌, ◌+◌, ◌∷◌, ◌≡◌, ◌≤◌}
+use Rattle.std.specs.Prelude.{Bool, List, Ok, Option, [], length, map, take, ℕ, ◌++◌, ◌+◌, ◌∷◌, ◌≡◌, ◌≤◌}
 use Rattle.worker_core.specs.Sessions.{version_of}
 use Rattle.worker_core.specs.declared.worker.Kind.{Kind}
 use Rattle.worker_loop.proofs.Becoming.{becomes_append}
 use Rattle.worker_loop.proofs.Running.{AreQuiet, all_events, events_append, inner_obeyed, inner_posts, offers_quiet, offers_run, posts_append, quiet_append, quiet_as, quiet_none, quiet_obeyed, rising_obeyed, rising_posts, taken_quiet, ticks_append}
 use Rattle.worker_loop.specs.Carrying.{CarriedAll, Nothing, events_in, obeyed_event, post_event}
-use Rattle.worker_loop.specs.Clauses.{Carries, CarriesAs, OffersAll, OffersCut, RunsCut, Takes, TurnsAs}
+use Rattle.worker_loop.specs.Clauses.{Carries, OffersAll, OffersCut, RunsCut, Takes, TurnsAs}
 use Rattle.worker_loop.specs.Cutting.{Cuts, CutsOne, Midway, NoneBegun}
 use Rattle.worker_loop.specs.Did.{Did, Gave, events_of}
 use Rattle.worker_loop.specs.Places.{Becomes, Place}
-use Rattle.worker_loop.specs.Turns.{Asks, IsTurn, Sides, sides_of}
-use Rattle.worker_loop.specs.Works.{AsksPart, BreaksTurn, InnerRun, MayMiss, NoneRun, Runs, TakenRun, posts_in, ticks_in}
+use Rattle.worker_loop.specs.Turns.{Asks, Sides, sides_of}
+use Rattle.worker_loop.specs.Works.{BreaksTurn, InnerRun, MayMiss, NoneRun, Runs, TakenRun, posts_in, ticks_in}
 use Rattle.worker_loop.specs.declared.turns.Ended.{Ended as End}
 use Rattle.worker_loop.specs.declared.turns.Ended.TheVariants as ended
 use Rattle.worker_ports.specs.Told.{TellsLast}

@@ -69,6 +69,7 @@ impl Flow {
         ensures few { result ≤ length (send self.now) }
     {
         let most = room.min(i64::from(frame)).max(0);
+        // It lies between 0 and `frame`, so it always fits.
         let most = u32::try_from(most).unwrap_or(frame);
         self.quantum.min(most).min(sent)
     }

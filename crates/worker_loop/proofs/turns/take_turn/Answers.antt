@@ -6,7 +6,7 @@ use Rattle.shared_state.specs.PermitSeats.{view}
 use Rattle.std.proofs.Common.{arith, refl, ◌∙◌}
 use Rattle.std.proofs.lemmas.Result.{err_from_is_err_and}
 use Rattle.std.specs.Prelude.{Bool}
-use Rattle.worker_loop.proofs.Keeping.{keeps_more, keeps_same, rises_err, rises_memory, rises_more, rises_ok}
+use Rattle.worker_loop.proofs.Keeping.{keeps_more, rises_err, rises_memory, rises_more, rises_ok}
 use Rattle.worker_loop.proofs.Carrying.{front_of_kept, obeyed_as}
 use Rattle.worker_loop.proofs.Turning.{allowed_as, asks_once, broke_drain, broke_obey, broke_offering, broke_posts, broke_taking, broke_tick, cuts_memory, cuts_one, drained_as, turn_is}
 use Rattle.worker_loop.specs.Carrying.{pressures_in}

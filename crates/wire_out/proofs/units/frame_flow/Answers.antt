@@ -1,6 +1,6 @@
 use Rattle.std.proofs.Common.{sym, ◌∙◌}
 use Rattle.wire_out.proofs.Framing.{live_there}
-use Rattle.wire_out.proofs.units.frame_octets.Goals as goal
+use Rattle.wire_out.proofs.units.frame_flow.Goals as goal
 
 pub frame_body_first-requires-clause-there : goal.frame_body_first-requires-clause-there
 frame_body_first-requires-clause-there c =
