@@ -1,6 +1,6 @@
 -- How much goes out at once.
-use Rattle.flow_rules.specs.Narrowed.{octets_of}
 use Rattle.h2_windows.specs.SendWindow.{Sending}
+use Rattle.flow_rules.specs.Narrowed.{octets_of}
 use Rattle.proxy_config.specs.declared.config.LimitKeys.{LimitKeys}
 use Rattle.std.proofs.Common.{ap, arith, subst, ◌∙◌}
 use Rattle.std.proofs.lemmas.Int.{ints}
@@ -14,7 +14,7 @@ use Rattle.wire_windows.specs.SendWindows.{HasRoom, SendWindows}
 use Rattle.wm_buffer.specs.Buffer.{AppendsOctets, Buffer}
 
 -- as many octets as a window has room for
-within_room : (n : ℕ) (most room : ℤ) → 0 < n → n ≤ octets_of most → most ≤ℤ room → pos n ≤ℤ room
+pub within_room : (n : ℕ) (most room : ℤ) → 0 < n → n ≤ octets_of most → most ≤ℤ room → pos n ≤ℤ room
 within_room n (pos m) room l h below = omega (arith, ints)
 within_room n (negsuc m) room l h below = absurd (omega (arith, l, h))
 

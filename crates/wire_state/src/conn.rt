@@ -1,11 +1,11 @@
 // One connection.
 ghost use Rattle.proxy_config.specs.Ranges.{AreLimits};
-ghost use Rattle.std.specs.Prelude.{◌≡◌, ◌&&◌, ◌<◌, ◌≤◌, ◌+◌, ◌*◌, ◌^◌, [], IfOk, false, min, not, true};
+ghost use Rattle.std.specs.Prelude.{◌≡◌, ◌&&◌, ◌<◌, ◌≤◌, ◌≤ℤ◌, ◌+◌, ◌*◌, ◌^◌, [], ℕ, IfOk, false, min, not, pos, true};
 ghost use Rattle.wire_inlet.specs.Incoming.{is_cluster};
 ghost use Rattle.wire_state.specs.Progress.{conn_go};
 ghost use Rattle.wire_state.specs.Sound.{IsKept};
 ghost use Rattle.wire_windows.specs.RecvWindows.{IsSound as AreSoundWindows, arrival, drops, held_at};
-ghost use Rattle.wire_windows.specs.SendWindows.{closes};
+ghost use Rattle.wire_windows.specs.SendWindows.{HasRoom, closes};
 
 use crate::ready::Ready;
 use exchange_core::Unit;
@@ -120,7 +120,9 @@ impl Conn {
     }
 
     /// The octets of an exchange that may be framed now, under the window of its stream and that of the connection.
-    pub fn room(&self, exchange: u64) -> i64 {
+    pub fn room(&self, exchange: u64) -> i64
+        ensures { (n : ℕ) → 0 < n → pos n ≤ℤ result → HasRoom exchange n self.now.windows.send }
+    {
         let send = &self.windows.send;
         match send.room(exchange) {
             Some(room) => room.min(send.conn_room()),
