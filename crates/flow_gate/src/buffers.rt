@@ -107,7 +107,7 @@ impl Buffers {
             BufferId::Write(conn) => self.writes.discard(&conn),
             BufferId::Recv(flow) => self.recvs.discard(flow),
             BufferId::Stage(flow, stage) => {
-                let _ = self.stages.remove(&StageId { flow, stage });
+                drop(self.stages.remove(&StageId { flow, stage }));
             }
             BufferId::Send(flow) => self.sends.discard(flow),
         }
