@@ -1,5 +1,5 @@
 //! What the layers below sessions answer, by tables with values from outside: ports, buffers, gates and notes; linked lists, timers
-//! and the answers to load; what threads share, on one thread and beside others.
+//! and the answers to load.
 #![tactic(auto)]
 
 #[cfg(test)]
@@ -15,13 +15,7 @@ mod overload;
 #[cfg(test)]
 mod ports;
 #[cfg(test)]
-mod posts;
-#[cfg(test)]
-mod states;
-#[cfg(test)]
 mod timers;
-#[cfg(test)]
-mod tokens;
 
 // What a test says, as calls: each is proved once, and a test that makes many of them stays short to prove.
 #[cfg(test)]

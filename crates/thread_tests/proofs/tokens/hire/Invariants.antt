@@ -1,6 +1,6 @@
 use Rattle.std.proofs.Common.{All, vec_len}
 use Rattle.shared_tokens.specs.Seats.{IsSeatOf, seats_in}
-use Rattle.layer_tests.proofs.tokens.hire.Given as goal
+use Rattle.thread_tests.proofs.tokens.hire.Given as goal
 
 abbrev pub invariant-loop-seat : goal.invariant-loop-seat
 invariant-loop-seat l = record {

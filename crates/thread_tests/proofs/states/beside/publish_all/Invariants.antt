@@ -1,6 +1,6 @@
 use Rattle.std.proofs.Common.{◌≡◌}
 use Rattle.shared_state.specs.States.{IsSame}
-use Rattle.layer_tests.proofs.states.beside.publish_all.Given as goal
+use Rattle.thread_tests.proofs.states.beside.publish_all.Given as goal
 
 abbrev pub invariant-loop-version : goal.invariant-loop-version
 invariant-loop-version g l = record {

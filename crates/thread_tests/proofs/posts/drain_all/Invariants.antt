@@ -1,5 +1,5 @@
 use Rattle.post_queue.specs.Clauses.{IsRunnerOf}
-use Rattle.layer_tests.proofs.posts.drain_all.Given as goal
+use Rattle.thread_tests.proofs.posts.drain_all.Given as goal
 
 abbrev pub invariant-loop : goal.invariant-loop
 invariant-loop g l = IsRunnerOf l.posts l.runner

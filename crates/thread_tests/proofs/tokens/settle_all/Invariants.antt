@@ -1,6 +1,6 @@
 use Rattle.std.proofs.Common.{All}
 use Rattle.shared_tokens.specs.Seats.{IsPutSeatOf, IsSeatOf}
-use Rattle.layer_tests.proofs.tokens.settle_all.Given as goal
+use Rattle.thread_tests.proofs.tokens.settle_all.Given as goal
 
 abbrev pub invariant-loop-seat : goal.invariant-loop-seat
 invariant-loop-seat g l = record {
