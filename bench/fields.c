@@ -1,4 +1,4 @@
-/* Decodes with libnghttp2 the stories of field blocks that `wire_rows bench fields` decodes, and tells how long that took.
+/* Decodes with libnghttp2 the stories of field blocks that `layer_bench fields` decodes, and tells how long that took.
    Each line of the input is a story: its name, and its blocks in hexadecimal, which one decoder reads in their order. */
 #include <nghttp2/nghttp2.h>
 #include <stdio.h>

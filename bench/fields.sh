@@ -14,12 +14,12 @@ if ! printf '#include <nghttp2/nghttp2.h>\nint main(void) { return nghttp2_versi
     exit 0
 fi
 "$compiler" -O3 -o "$made/fields" bench/fields.c -lnghttp2
-cd crates/wire_rows
+cd crates/layer_bench
 rt run >/dev/null
-out/wire_rows bench fields blocks >"$made/stories"
+out/layer_bench fields blocks >"$made/stories"
 /usr/bin/python3 ../../bench/stories.py >>"$made/stories"
 for turn in 1 2 3 4 5; do
-    out/wire_rows bench fields stories <"$made/stories"
+    out/layer_bench fields stories <"$made/stories"
     "$made/fields" <"$made/stories"
 done
-out/wire_rows bench fields | tail -1
+out/layer_bench fields | tail -1

@@ -1,9 +1,7 @@
 //! Prints what the machines of a wire session answer in each case of standard input. The head of `stdin` says how a case is
-//! written. With the words `bench BENCH` it runs a bench of the layers below the cores of sessions instead, by hand; a line `bench` prints
-//! which there are.
+//! written.
 #![tactic(auto)]
 
-mod bench;
 mod flows;
 mod heads;
 mod inlet;
@@ -14,33 +12,14 @@ mod timers;
 mod windows;
 mod words;
 
-use std::env;
 use std::io::Read;
 
 fn main(rt: HostRuntime) -> anyhow::Result<()> {
-    let mut words = env::args(&rt)?;
-    let _program = words.next();
-    if words.next().is_none() {
-        return show_cases(&rt);
-    }
-    let Some(bench) = words.next() else {
-        return bench::usage(&rt);
-    };
-    let word = words.next();
-    let number = words.next();
-    bench::run(&rt, bench.as_str(), text_of(&word), text_of(&number))
-}
-
-fn text_of(word: &Option<String>) -> Option<&str> {
-    word.as_ref().map(|word| word.as_str())
-}
-
-fn show_cases(rt: &HostRuntime) -> anyhow::Result<()> {
     let mut octets = Vec::new(rt.alloc());
     rt.reader().read_to_end(&mut octets)?;
     let text = std::str::from_utf8(octets.as_slice()).unwrap_or("not UTF-8");
     for line in text.lines() {
-        show_line(rt, line)?;
+        show_line(&rt, line)?;
     }
     Ok(())
 }
@@ -53,7 +32,6 @@ fn show_line(rt: &HostRuntime, line: &str) -> anyhow::Result<()> {
     }
     let (machine, _) = line.split_once(' ').unwrap_or((line, ""));
     match machine {
-        "bench" => bench::usage(rt),
         "flows" => flows::show(rt, line),
         "heads" => heads::show(rt, line),
         "inlet" => inlet::show(rt, line),

@@ -1,4 +1,4 @@
-// Many buffers of one flow, many flows, and many watchers of one buffer. What a call costs among 200,000 flows `wire_rows bench gates`
+// Many buffers of one flow, many flows, and many watchers of one buffer. What a call costs among 200,000 flows `layer_bench gates`
 // measures.
 use super::Call::{BeginLow, Forget, High, NextLow, OpenBuffer, OpenFlow, Watch};
 use super::{Answer, DONE, FIRST, LOW, NOBODY, SHARED, count, make, make_one};

@@ -1,5 +1,0 @@
-use Rattle.post_queue.specs.Clauses.{IsPosterOf}
-use Rattle.wire_rows.proofs.bench.posts.fill.Given as goal
-
-abbrev pub invariant-loop : goal.invariant-loop
-invariant-loop g l = IsPosterOf l.posts l.pass

@@ -1,6 +1,0 @@
-use Rattle.wire_rows.proofs.bench.relay_turns.tell_reads.Given as goal
-use Rattle.relay_ports.specs.Memory.{seen_of}
-use Rattle.std.specs.Prelude.{◌≡◌}
-
-abbrev pub invariant-loop-turn : goal.invariant-loop-turn
-invariant-loop-turn l = seen_of l.taps ≡ seen_of l.fn.taps

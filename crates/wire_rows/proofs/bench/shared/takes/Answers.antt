@@ -1,8 +1,0 @@
-use Rattle.std.proofs.Common.{Some}
-use Rattle.std.proofs.lemmas.List.Elements.{All-pop}
-use Rattle.std.specs.Arc.{arc_value}
-use Rattle.shared_tokens.specs.Seats.{IsNewSeat}
-use Rattle.wire_rows.proofs.bench.shared.takes.Goals as goal
-
-pub loop-seat-preserved : goal.loop-seat-preserved
-loop-seat-preserved c = (All-pop (IsNewSeat (arc_value c.in_ok-bucket-2.bucket)) _ _ (Some c.in-Some.seat) c.in-Some.ensures c.loop-seat.invariant).0

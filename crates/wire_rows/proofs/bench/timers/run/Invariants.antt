@@ -1,4 +1,0 @@
-use Rattle.wire_rows.proofs.bench.timers.run.Given as goal
-
-abbrev pub ghosts-report : goal.ghosts-report
-ghosts-report g a = record { name = a.blank.name; parts = a.blank.parts }
