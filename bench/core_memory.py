@@ -1,11 +1,12 @@
 #!/usr/bin/env python3
-"""What memory a core of wire sessions takes, by the benches of `loop_rows`, built.
+"""What memory a core of wire sessions takes, by `core_bench`, built.
 
-    bench/core_memory.py LOOP_ROWS [--hundreds N] [--conns N] [--thousands N] [--runs N]
+    bench/core_memory.py CORE_BENCH [--hundreds N] [--conns N] [--thousands N] [--runs N]
 
-Runs `bench full N`: the resident size beside that of `bench full 0` has to be at most what the buffers of all flows hold, and 20 % more.
-Then `bench many`: after so many connections that came and went, and after so many thousand exchanges, the greatest resident size has to be
-that after the first thousand, within the spread of that size over some runs. Debian's package time. Ends with 1 where it isn't.
+Runs `core_bench full N`: the resident size beside that of `core_bench full 0` has to be at most what the buffers of all flows hold, and
+20 % more. Then `core_bench many`: after so many connections that came and went, and after so many thousand exchanges, the greatest
+resident size has to be that after the first thousand, within the spread of that size over some runs. Debian's package time. Ends with
+1 where it isn't.
 """
 import argparse, os, re, subprocess, sys
 
@@ -22,8 +23,8 @@ def peak(*words):
 
 
 def full(program, hundreds):
-    _said, empty = peak(program, 'bench', 'full', '0')
-    said, size = peak(program, 'bench', 'full', str(hundreds))
+    _said, empty = peak(program, 'full', '0')
+    said, size = peak(program, 'full', str(hundreds))
     flows, taken, limits, most = map(int, re.findall(r'\d+', said))
     used = (size - empty) * 1024
     print(f'{flows} flows took {taken} octets, their limits are {limits}, with a unit each {most}; resident {used}, '
@@ -32,9 +33,9 @@ def full(program, hundreds):
 
 
 def many(program, conns, thousands, runs):
-    first = [peak(program, 'bench', 'many', '1000', '1')[1] for _run in range(runs)]
-    by_conns = peak(program, 'bench', 'many', str(conns), '1')[1]
-    by_exchanges = peak(program, 'bench', 'many', '1000', str(thousands))[1]
+    first = [peak(program, 'many', '1000', '1')[1] for _run in range(runs)]
+    by_conns = peak(program, 'many', str(conns), '1')[1]
+    by_exchanges = peak(program, 'many', '1000', str(thousands))[1]
     print(f'resident at most: {min(first)} to {max(first)} KiB after the first thousand, {by_conns} after {conns} connections, '
           f'{by_exchanges} after {thousands} thousand exchanges')
     return max(by_conns, by_exchanges) <= max(first) + SPREAD
@@ -42,13 +43,13 @@ def many(program, conns, thousands, runs):
 
 def main():
     parser = argparse.ArgumentParser(description=__doc__.splitlines()[0])
-    parser.add_argument('loop_rows')
+    parser.add_argument('core_bench')
     parser.add_argument('--hundreds', type=int, default=10)
     parser.add_argument('--conns', type=int, default=1_000_000)
     parser.add_argument('--thousands', type=int, default=1_000)
     parser.add_argument('--runs', type=int, default=10)
     args = parser.parse_args()
-    program = os.path.abspath(args.loop_rows)
+    program = os.path.abspath(args.core_bench)
     kept = full(program, args.hundreds)
     kept = many(program, args.conns, args.thousands, args.runs) and kept
     sys.exit(0 if kept else 1)

@@ -1,4 +1,3 @@
-mod Fitting
 pub mod Spelled
 mod Started
 mod Starting

@@ -2,8 +2,8 @@
 //! worker the turns at which its gate was passed, its journal, how many dispatches and notes there were, what the connections gave,
 //! were offered and were closed, how many permits are kept, and with which status and how many notes the journal replays. Before
 //! the cases it does what `h2replay` does with this program's own words, if it has any (the gate gives it `drill 20`, and `h2replay`
-//! itself `plain`). With the words `bench BENCH` it runs a bench of the core of wire sessions, of a live worker over it or of the
-//! drill instead, by hand, and with `bench` alone it prints which there are, as with a case whose first line is `bench`.
+//! itself `plain`). With the words `bench BENCH` it runs a bench of a live worker or of its journal instead, by hand, and with `bench`
+//! alone it prints which there are, as with a case whose first line is `bench`.
 //!
 //! A case begins with a line `## NAME`. Lines `| TEXT` are the configuration's. A line `$ TURNS MOST PERMITS` has how many turns
 //! there are, how many octets an offer takes at most, and how many permits; `% tokens N` meters the client connections with N
@@ -74,12 +74,12 @@ use std::thread::Threads;
 enum Asked {
     Cases,
     Replay,
-    Bench { name: String, one: u32, two: u32 },
+    Bench(String),
 }
 
 fn main(rt: HostRuntime) -> anyhow::Result<()> {
     match what_is_asked(&rt)? {
-        Asked::Bench { name, one, two } => bench::run(&rt, name.as_str(), one, two),
+        Asked::Bench(name) => bench::run(&rt, name.as_str()),
         Asked::Replay => {
             println!(rt; "## h2replay with this program's words")?;
             replay_words(&rt, io::empty(), rt.stdout());
@@ -110,11 +110,7 @@ fn what_is_asked<R: Env + AllocGlobal>(rt: &R) -> io::Result<Asked> {
     if first.as_str() != "bench" {
         return Ok(Asked::Replay);
     }
-    Ok(Asked::Bench {
-        name: words.next().unwrap_or(String::new(rt.alloc())),
-        one: bench::number(words.next()),
-        two: bench::number(words.next()),
-    })
+    Ok(Asked::Bench(words.next().unwrap_or(String::new(rt.alloc()))))
 }
 
 // Runs the case of this text, and prints how it ends.

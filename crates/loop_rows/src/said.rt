@@ -63,17 +63,3 @@ impl Said {
         rt.print(self.text.as_str())
     }
 }
-
-/// Prints a line of numbers, each behind its words, and the words at its end.
-pub fn print_line<R: Print + AllocGlobal>(
-    rt: &R,
-    numbers: &[(&str, u64)],
-    end: &str,
-) -> io::Result<()> {
-    let mut said = Said::new(rt.alloc());
-    for number in numbers {
-        said.say_with(number.0, number.1);
-    }
-    said.line(end);
-    said.print(rt)
-}

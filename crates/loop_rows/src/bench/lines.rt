@@ -1,7 +1,6 @@
 // Lines of a journal, beside a plain copy of their octets.
-use crate::bench::stopwatch::CpuStopwatch;
-use crate::said::print_line;
 use anyhow::anyhow;
+use bench_parts::{CpuStopwatch, print_line};
 use io_ports::MemSink;
 use std::time::CpuClock;
 use worker_loop::{Journal, MemJournal};

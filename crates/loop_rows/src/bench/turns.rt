@@ -6,12 +6,10 @@ ghost use Rattle.std.specs.Prelude.{◌≡◌, true};
 ghost use Rattle.worker_core.specs.Sessions.{RestsWire};
 ghost use Rattle.worker_loop.specs.Keeping.{Holds};
 
-use crate::bench::peers::Peers;
-use crate::bench::rig::{cost_behind, no_memory};
 use crate::bench::stage::Stage;
-use crate::bench::stopwatch::CpuStopwatch;
-use crate::said::print_line;
 use anyhow::{anyhow, ensure};
+use bench_parts::{CpuStopwatch, print_line};
+use core_rig::{Peers, cost_behind, no_memory};
 use flow_notes::Names;
 use io_ports::NoMemory;
 use proxy_config::Config;

@@ -1,9 +1,7 @@
 // Small exchanges and ticks beside idle connections and exchanges.
-use crate::bench::gets::{CONFIG, EXCHANGES, Route, exchanges};
-use crate::bench::peers::{Peers, stream_after};
-use crate::bench::rig::{Cost, Rig, cost_behind, no_memory};
-use crate::bench::stopwatch::tenths;
-use crate::said::print_line;
+use crate::gets::{CONFIG, EXCHANGES, Route, exchanges};
+use bench_parts::{print_line, tenths};
+use core_rig::{Cost, Peers, Rig, cost_behind, no_memory, stream_after};
 use io_ports::NoMemory;
 use std::alloc::Global;
 use std::time::CpuClock;

@@ -1,8 +1,6 @@
 // Bodies of a MiB, down and up, beside a plain copy of the same octets.
-use crate::bench::peers::{Peers, client_and_cluster, stream_after};
-use crate::bench::rig::{Rig, no_memory};
-use crate::bench::stopwatch::{CpuStopwatch, tenths};
-use crate::said::print_line;
+use bench_parts::{CpuStopwatch, print_line, tenths};
+use core_rig::{Peers, Rig, client_and_cluster, no_memory, stream_after};
 use flow_notes::Event;
 use io_ports::{NoMemory, Octets};
 use std::alloc::Global;

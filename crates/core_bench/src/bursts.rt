@@ -1,7 +1,6 @@
 // What one event costs that has to do with all exchanges of a client: a close, a low, SETTINGS.
-use crate::bench::peers::{Peers, stream_after};
-use crate::bench::rig::{Cost, cost_behind, no_memory};
-use crate::said::print_line;
+use bench_parts::print_line;
+use core_rig::{Cost, Peers, cost_behind, no_memory, stream_after};
 use io_ports::NoMemory;
 use std::alloc::Global;
 use std::time::CpuClock;

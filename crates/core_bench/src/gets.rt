@@ -1,9 +1,7 @@
 // Small requests and their responses, one after the other.
-use crate::bench::drill::{drill_once, events_a_second};
-use crate::bench::peers::{Peers, client_and_cluster, stream_after};
-use crate::bench::rig::{cost_behind, no_memory};
-use crate::bench::stopwatch::per_second;
-use crate::said::print_line;
+use crate::drill::{drill_once, events_a_second};
+use bench_parts::{per_second, print_line};
+use core_rig::{Peers, client_and_cluster, cost_behind, no_memory, stream_after};
 use io_ports::NoMemory;
 use std::alloc::Global;
 use std::time::CpuClock;

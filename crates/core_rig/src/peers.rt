@@ -1,5 +1,5 @@
 // What peers do: events that are put together before a core is given them.
-use crate::bench::frames::Wire;
+use crate::frames::Wire;
 use flow_notes::{Event, EventList};
 use io_ports::NoMemory;
 use std::alloc::Global;
@@ -29,12 +29,13 @@ impl Peers {
         }
     }
 
+    /// What they do, in order.
     pub fn events(&self) -> &[Event] {
         self.events.as_slice()
     }
 
-    /// What waits is sent.
-    pub fn read(&mut self, conn: u32, wire: Wire) -> Result<(), NoMemory> {
+    // What waits is sent.
+    fn read(&mut self, conn: u32, wire: Wire) -> Result<(), NoMemory> {
         let octets = wire.into_octets()?;
         self.events.push(Event::Read { conn, octets })
     }

@@ -1,8 +1,7 @@
 // A drill from end to end, beside its octets through two watermark buffers.
-use crate::bench::rig::{no_memory, piece};
-use crate::bench::stopwatch::{CpuStopwatch, per_second};
-use crate::said::print_line;
 use anyhow::{bail, ensure};
+use bench_parts::{CpuStopwatch, per_second, print_line};
+use core_rig::{no_memory, piece};
 use flow_notes::{Event, EventList, PlainEvent};
 use io_ports::{MemSink, MemSource, NoMemory};
 use replay_run::{Status, drill_events, replay};

@@ -1,8 +1,7 @@
 // Connections and exchanges that come and go.
-use crate::bench::gets::{CONFIG, Route, exchanges};
-use crate::bench::peers::{Peers, client_and_cluster};
-use crate::bench::rig::Rig;
-use crate::said::print_line;
+use crate::gets::{CONFIG, Route, exchanges};
+use bench_parts::print_line;
+use core_rig::{Peers, Rig, client_and_cluster};
 use io_ports::NoMemory;
 use std::alloc::Global;
 

@@ -1,7 +1,6 @@
 // Exchanges whose buffers are full.
-use crate::bench::peers::{Peers, stream_after};
-use crate::bench::rig::{Rig, piece};
-use crate::said::print_line;
+use bench_parts::print_line;
+use core_rig::{Peers, Rig, piece, stream_after};
 use io_ports::NoMemory;
 use std::alloc::Global;
 use std::cmp;

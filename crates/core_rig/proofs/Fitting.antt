@@ -1,5 +1,5 @@
 -- A fit core may take an event, and stays fit.
-use Rattle.loop_rows.specs.Rigs.{IsFit}
+use Rattle.core_rig.specs.Rigs.{IsFit}
 use Rattle.flow_notes.specs.declared.events.Event.{Event}
 use Rattle.flow_notes.specs.declared.notes.Note.{Note}
 use Rattle.std.proofs.Common.{ap, refl, sym, ◌∙◌}

@@ -1,9 +1,9 @@
 // A core that is given what its peers do.
 ghost use Rattle.proxy_config.specs.Ranges.{IsInRange};
 
-use crate::bench::peers::Peers;
-use crate::bench::stopwatch::CpuStopwatch;
+use crate::peers::Peers;
 use anyhow::{anyhow, bail, ensure};
+use bench_parts::CpuStopwatch;
 use config_tables::read_config;
 use flow_notes::{Event, Note, Notes, Passage};
 use io_ports::{NoMemory, Octets};
@@ -17,6 +17,7 @@ use worker_core::Core;
 /// The most octets of a configuration.
 const MOST_CONFIG: usize = 4_096;
 
+/// That memory ran out, as the error of a bench.
 pub fn no_memory(_: NoMemory) -> anyhow::Error {
     anyhow!("out of memory")
 }
@@ -36,7 +37,7 @@ pub struct Rig {
 }
 
 impl Model for Rig {
-    ghost use Rattle.loop_rows.specs.Rigs.{IsFit};
+    ghost use Rattle.core_rig.specs.Rigs.{IsFit};
     ghost use Rattle.std.specs.Prelude.{Bool, true};
 
     ghost Value = { Bool };
@@ -47,7 +48,7 @@ impl Model for Rig {
 }
 
 impl Rig {
-    /// Before the first event of sessions under this configuration.
+    /// Before the first event of sessions under this configuration, of at most 4,096 octets.
     pub fn new(alloc: Global, config: &[u8]) -> anyhow::Result<Self> {
         ensure!(config.len() <= MOST_CONFIG, "the configuration is too long");
         match read_config(alloc, config) {
@@ -114,7 +115,7 @@ impl Rig {
         self.cost(clock, then)
     }
 
-    /// What the last dispatch granted on a stream.
+    /// How many octets the last dispatch granted on a stream.
     pub fn granted(&self, conn: u32, stream: u32) -> usize {
         let mut sum = 0usize;
         for passage in self.notes.passages() {
@@ -151,6 +152,7 @@ fn credit_of(passage: Passage<'_>, conn: u32, stream: u32) -> usize {
     }
 }
 
+/// So many octets 7.
 pub fn piece(alloc: Global, n: usize) -> anyhow::Result<Octets> {
     let Ok(piece) = vec![in alloc; 7u8; n] else {
         bail!("out of memory");
