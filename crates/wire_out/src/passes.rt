@@ -20,7 +20,7 @@ use flow_gate::FlowId;
 use flow_notes::Notes;
 use io_ports::NoMemory;
 use wire_flows::{Framed, WireFlows};
-use wire_state::{Conn, Course, Task, WireCore};
+use wire_state::{Conn, Course, NextUnit, Task, WireCore};
 
 /// Octets of a flow that is being run moved: the connection that it goes to is drained. Where nothing else goes next there, they are
 /// framed at once, and what goes next of the flow isn't looked up before.
@@ -35,7 +35,7 @@ pub(crate) fn pass_body(
     ensures notes { Appends notes.old notes.new }
     ensures octets { Goes result core.old notes.old core.new notes.new }
 {
-    match free_way(core, course.to) {
+    match free_way(core, course) {
         Some(to) => frame_moved(core, course, to, notes),
         None => look_and_drain(core, course, notes),
     }
@@ -195,7 +195,7 @@ fn way_of(core: &mut WireCore, course: Course) -> Option<Going>
     ensures unframed { IfSome result (λ going. IfNone going.stream (IsUnframed going.conn going.course.flow.exchange core.new.links)) }
     ensures octets { Keeps core.old core.new }
 {
-    let to = free_way(core, course.to)?;
+    let to = free_way(core, course)?;
     let going = going_to(core, to, course.flow.exchange)?;
     Some(Going {
         conn: going.conn,
@@ -244,25 +244,29 @@ fn look_and_drain_both(
     drain_both(core, course, notes)
 }
 
-// The connection that a flow goes to, where units may be framed, none goes next, and it isn't being drained.
+// The connection that a flow goes to, where units may be framed, none of another exchange goes next, and it isn't being drained.
 #[inline(always)]
-fn free_way(core: &mut WireCore, to: Option<u32>) -> Option<u32>
+fn free_way(core: &mut WireCore, course: Course) -> Option<u32>
     requires sound { IsSound core.old }
     ensures sound { IsSound core.new }
     ensures go { to_go core.new ≤ to_go core.old }
     ensures rest { core.new ≡ record core.old { conns = core.new.conns } }
     ensures octets { Keeps core.old core.new }
 {
-    let to = to?;
-    if core.stirred.is_calm(to) || core.agenda.is_draining(to) || !is_free(core, to) {
+    let to = course.to?;
+    if core.stirred.is_calm(to) || core.agenda.is_draining(to) {
         return None;
     }
-    Some(to)
+    if goes_next(core, to, course.flow.exchange) {
+        Some(to)
+    } else {
+        None
+    }
 }
 
-// Whether units may be framed at a connection, and none goes next.
+// Whether units may be framed at a connection, and none but one of this exchange goes next.
 #[inline(always)]
-fn is_free(core: &mut WireCore, number: u32) -> bool
+fn goes_next(core: &mut WireCore, number: u32, exchange: u64) -> bool
     requires sound { IsSound core.old }
     ensures sound { IsSound core.new }
     ensures go { to_go core.new ≤ to_go core.old }
@@ -270,15 +274,23 @@ fn is_free(core: &mut WireCore, number: u32) -> bool
     ensures octets { Keeps core.old core.new }
 {
     match core.conns.get_mut(&number) {
-        Some(conn) => has_none(conn, &core.flows),
+        Some(conn) => has_way(conn, &core.flows, exchange),
         None => false,
     }
 }
 
 #[inline(always)]
-fn has_none(conn: &mut Conn, flows: &WireFlows) -> bool
+fn has_way(conn: &mut Conn, flows: &WireFlows, exchange: u64) -> bool
     ensures rest { conn.new ≡ record conn.old { credits = conn.new.credits } }
     ensures go { conn_go conn.new ≡ conn_go conn.old }
 {
-    conn.may_write() && conn.next_unit(flows).is_none()
+    if !conn.may_write() {
+        return false;
+    }
+    match conn.next_unit(flows) {
+        None => true,
+        Some(NextUnit::Flow(next)) => next == exchange,
+        Some(NextUnit::Body(next)) => next == exchange,
+        Some(_) => false,
+    }
 }
