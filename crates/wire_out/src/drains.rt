@@ -38,8 +38,10 @@ pub(crate) fn drain_now(core: &mut WireCore, number: u32, notes: &mut Notes) -> 
     if core.stirred.is_calm(number) || core.agenda.is_draining(number) {
         return Ok(());
     }
-    core.begin(Task::Drain(number))?;
-    drain(core, number, notes)
+    match look_at(core, number) {
+        Some(unit) => begin_drain(core, number, unit, notes),
+        None => Ok(()),
+    }
 }
 
 /// A connection, if there is one, is drained from now on, unless it is being drained.
@@ -98,7 +100,7 @@ pub fn begin_drain(
 }
 
 // A drain, of which a unit was framed, goes on at once, unless that began what goes before the next unit.
-fn drain_on(core: &mut WireCore, number: u32, notes: &mut Notes) -> Result<(), NoMemory>
+pub(crate) fn drain_on(core: &mut WireCore, number: u32, notes: &mut Notes) -> Result<(), NoMemory>
     requires sound { IsSound core.old }
     ensures sound { OnOk result (IsSound core.new) }
     ensures go { OnOk result (to_go core.new ≤ to_go core.old) }

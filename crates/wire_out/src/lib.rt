@@ -6,6 +6,7 @@ mod controls;
 mod drains;
 mod lists;
 mod moves;
+mod passes;
 mod runs;
 mod telling;
 mod units;

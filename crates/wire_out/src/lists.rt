@@ -21,6 +21,7 @@ use wire_state::{Conn, WireCore, note_head};
 
 /// The head of a flow, or its trailers. A request's head opens its stream; where no number is left for one, the exchange is
 /// lost.
+#[inline(always)]
 pub(crate) fn frame_list(
     core: &mut WireCore,
     going: Going,
@@ -38,10 +39,31 @@ pub(crate) fn frame_list(
     ensures notes { Appends notes.old notes.new }
     ensures octets { Goes result core.old notes.old core.new notes.new }
 {
-    let exchange = going.course.flow.exchange;
-    if let Some(stream) = going.stream {
-        return frame_fields(core, going, stream, last, notes);
+    match going.stream {
+        Some(stream) => frame_fields(core, going, stream, last, notes),
+        None => frame_first(core, going, last, notes),
     }
+}
+
+// The head of a request opens its stream. Where no number is left for one, the exchange is lost.
+fn frame_first(
+    core: &mut WireCore,
+    going: Going,
+    last: bool,
+    notes: &mut Notes,
+) -> Result<(), NoMemory>
+    requires sound { IsSound core.old }
+    requires top { top_go core.old.agenda ≡ 1 }
+    requires live { is_live_in core.old.flows going.course.flow.exchange ≡ true }
+    requires there { IsThere core.old.flows going.course.flow }
+    requires unframed { IsUnframed going.conn going.course.flow.exchange core.old.links }
+    requires unit { IfSome (flow_in core.old.flows going.course.flow) (IsFrameable (Head last)) }
+    ensures sound { OnOk result (IsSound core.new) }
+    ensures go { OnOk result (to_go core.new + (1 + stirred_at going.conn core.old.stirred.conns.items) ≤ to_go core.old) }
+    ensures notes { Appends notes.old notes.new }
+    ensures octets { Goes result core.old notes.old core.new notes.new }
+{
+    let exchange = going.course.flow.exchange;
     match open_stream(core, going)? {
         Some(stream) => frame_fields(core, going, stream, last, notes),
         None => {

@@ -1,7 +1,7 @@
 // Moves: what octets begin that went from one place of a flow to the next.
 ghost use Rattle.flow_rules.specs.Pausing.{CanPause};
 ghost use Rattle.flow_notes.specs.declared.notes.Note.TheVariants as note;
-ghost use Rattle.std.specs.Prelude.{◌≡◌, ◌≤◌, ◌+◌, ◌++◌, ◌∷◌, [], IfSome, OnOk};
+ghost use Rattle.std.specs.Prelude.{◌≡◌, ◌≤◌, ◌+◌, ◌++◌, ◌∷◌, [], IfSome, OnOk, if◌then◌else◌};
 ghost use Rattle.wire_flows.specs.Moves.{IsMove};
 ghost use Rattle.wire_state.specs.Agenda.{top_go};
 ghost use Rattle.wire_state.specs.Noting.{Appends, crossed_of, late_of, moved_of, pause_of, resume_of};
@@ -9,7 +9,7 @@ ghost use Rattle.wire_state.specs.Progress.{to_go};
 ghost use Rattle.wire_state.specs.Sound.{IsSound};
 ghost use Rattle.wire_state.specs.Worlds.{Goes, KeepsOk, Pays, Settles};
 
-use crate::drains::drain_at;
+use crate::passes::pass_body;
 use crate::runs::ask_drain;
 use flow_gate::{BufferId, FlowId};
 use flow_notes::{Cause, Note, Notes};
@@ -22,25 +22,21 @@ use wire_state::{Course, Task, WireCore, note};
 pub(crate) fn go_on(
     core: &mut WireCore,
     course: Course,
+    tried: bool,
     moved: Moved,
     notes: &mut Notes,
 ) -> Result<(), NoMemory>
     requires sound { IsSound core.old }
-    requires top { 1 ≤ top_go core.old.agenda }
+    requires top { top_go core.old.agenda ≡ (if tried then 1 else 6) }
     requires moved { IsMove course.flow (Outcome.Moved moved) }
     ensures sound { OnOk result (IsSound core.new) }
     ensures go { OnOk result (to_go core.new ≤ to_go core.old + 11) }
     ensures notes { Appends notes.old notes.new }
     ensures octets { Settles (late_of course.flow moved) result core.old (notes.old ++ moved_of course.flow moved) core.new notes.new }
 {
-    core.go_on(Task::Run {
-        course,
-        tried: false,
-    })?;
-    core.touch(course.flow.exchange)?;
+    try_anew(core, course, tried)?;
     owe_moved(core, course, moved)?;
     core.stir_some(course.to)?;
-    core.refresh(course)?;
     note(
         notes,
         Note::Move {
@@ -50,6 +46,24 @@ pub(crate) fn go_on(
         },
     )?;
     cross(core, course, moved, notes)
+}
+
+// The run of a flow goes on as one that hasn't looked once more.
+fn try_anew(core: &mut WireCore, course: Course, tried: bool) -> Result<(), NoMemory>
+    requires sound { IsSound core.old }
+    requires top { top_go core.old.agenda ≡ (if tried then 1 else 6) }
+    ensures sound { OnOk result (IsSound core.new) }
+    ensures go { OnOk result (to_go core.new ≤ to_go core.old + 5) }
+    ensures rest { core.new ≡ record core.old { agenda = core.new.agenda } }
+    ensures octets { KeepsOk result core.old core.new }
+{
+    if tried {
+        return core.go_on(Task::Run {
+            course,
+            tried: false,
+        });
+    }
+    Ok(())
 }
 
 // Octets that left the receive buffer are owed to the stream and the connection that they came from.
@@ -110,7 +124,7 @@ fn cross(
         return doom(core, exchange, Cause::Overflow, Origin::Neither, notes);
     }
     resume_where(core, course, moved.drained, notes)?;
-    drain_at(core, course.to, notes)
+    pass_body(core, course, notes)
 }
 
 // Where a Meter of a flow has drained, the flow is told.

@@ -9,6 +9,7 @@ ghost use Rattle.wire_state.specs.Worlds.{Goes, Keeps, KeepsOk};
 
 use crate::drains::{drain_at, drain_by, next_unit};
 use crate::moves::go_on;
+use crate::passes::pass_list;
 use flow_notes::{Cause, Notes};
 use io_ports::NoMemory;
 use wire_ends::{Origin, doom};
@@ -29,7 +30,7 @@ pub fn ask_run(core: &mut WireCore, course: Course, notes: &mut Notes) -> Result
         return Ok(());
     }
     if !core.flows.holds(course.flow) {
-        return drain_both(core, course, notes);
+        return pass_list(core, course, notes);
     }
     core.begin(Task::Run {
         course,
@@ -77,7 +78,7 @@ fn move_on(
     ensures octets { Goes result core.old notes.old core.new notes.new }
 {
     match core.flows.step(course.flow)? {
-        Outcome::Moved(moved) => go_on(core, course, moved, notes),
+        Outcome::Moved(moved) => go_on(core, course, tried, moved, notes),
         Outcome::TooLarge => overfull(core, course, tried, notes),
         Outcome::Still => stop(core, course, tried, notes),
     }
@@ -85,7 +86,7 @@ fn move_on(
 
 // A flow without octets has nothing to move, and a drain brings it none: it isn't looked at once more. Its connections are
 // drained, the one that it goes to first and at once.
-fn drain_both(core: &mut WireCore, course: Course, notes: &mut Notes) -> Result<(), NoMemory>
+pub(crate) fn drain_both(core: &mut WireCore, course: Course, notes: &mut Notes) -> Result<(), NoMemory>
     requires sound { IsSound core.old }
     ensures sound { OnOk result (IsSound core.new) }
     ensures go { OnOk result (to_go core.new ≤ to_go core.old + 2) }
@@ -103,7 +104,7 @@ fn drain_both(core: &mut WireCore, course: Course, notes: &mut Notes) -> Result<
 }
 
 // The connection that is to be drained next, if there is one: none where that is what goes on next.
-fn next_from(core: &WireCore, conn: Option<u32>) -> Option<u32> {
+pub(crate) fn next_from(core: &WireCore, conn: Option<u32>) -> Option<u32> {
     match (core.agenda.top(), conn) {
         (Some(Task::AskDrain(next)), Some(conn)) if next == conn => None,
         _ => conn,

@@ -101,7 +101,7 @@ fn frame_going(core: &mut WireCore, going: Going, notes: &mut Notes) -> Result<(
 }
 
 // The flow of an exchange that goes to a connection.
-fn going_to(core: &WireCore, conn: u32, exchange: u64) -> Option<Going>
+pub(crate) fn going_to(core: &WireCore, conn: u32, exchange: u64) -> Option<Going>
     ensures conn { IfSome result (λ going. going.conn ≡ conn) }
     ensures exchange { IfSome result (λ going. going.course.flow.exchange ≡ exchange) }
     ensures linked { IfSome result (λ going. IsSome (ends_of going.course.flow.exchange core.entry.now.links)) }
@@ -206,7 +206,7 @@ fn frame_body(core: &mut WireCore, going: Going, notes: &mut Notes) -> Result<()
 }
 
 // A DATA frame of a flow went into the write buffer: it is noted, with what it begins.
-fn body_framed(
+pub(crate) fn body_framed(
     core: &mut WireCore,
     going: Going,
     framed: Framed,
@@ -258,7 +258,7 @@ fn end_or_resume(
 
 // The octets of a DATA frame go from the send buffer into the write buffer, under both windows. None where there is no such
 // frame.
-fn write_body(core: &mut WireCore, going: Going) -> Result<Option<Framed>, NoMemory>
+pub(crate) fn write_body(core: &mut WireCore, going: Going) -> Result<Option<Framed>, NoMemory>
     requires sound { IsSound core.old }
     requires there { IsThere core.old.flows going.course.flow }
     requires stream { going.stream ≡ stream_in core.old.links going.course.flow }

@@ -35,6 +35,18 @@ pub(crate) fn next_round(core: &mut WireCore, notes: &mut Notes) -> Result<bool,
     if core.stirred.are_calm() {
         return Ok(false);
     }
+    look_round(core, notes)
+}
+
+// As `next_round`, where not all are known to be calm.
+#[inline(never)]
+fn look_round(core: &mut WireCore, notes: &mut Notes) -> Result<bool, NoMemory>
+    requires sound { IsSound core.old }
+    ensures sound { OnOk result (IsSound core.new) }
+    ensures go { IfOk result (λ more. more ≡ true → to_go core.new < to_go core.old) }
+    ensures notes { Appends notes.old notes.new }
+    ensures octets { Goes result core.old notes.old core.new notes.new }
+{
     let Some((conn, work)) = next_work(core) else {
         return Ok(false);
     };

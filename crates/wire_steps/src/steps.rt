@@ -116,14 +116,34 @@ fn go_on(core: &mut WireCore, notes: &mut Notes) -> Result<bool, NoMemory>
 {
     match core.agenda.top() {
         Some(task) => {
-            step(core, task, notes)?;
+            step_often(core, task, notes)?;
             Ok(true)
         }
         None => next_round(core, notes),
     }
 }
 
+// As `step`. The tasks that each exchange has are looked at first and within the loop of the steps, so that the others, and what they
+// keep on the stack, cost those nothing.
+#[inline(always)]
+fn step_often(core: &mut WireCore, task: Task, notes: &mut Notes) -> Result<(), NoMemory>
+    requires sound { IsSound core.old }
+    requires top { top_go core.old.agenda ≡ task_go task }
+    ensures sound { OnOk result (IsSound core.new) }
+    ensures go { OnOk result (to_go core.new < to_go core.old) }
+    ensures notes { Appends notes.old notes.new }
+    ensures octets { Goes result core.old notes.old core.new notes.new }
+{
+    match task {
+        Task::AskDrain(conn) => ask_drain(core, conn, notes),
+        Task::AskRun(course) => ask_run(core, course, notes),
+        Task::Read(conn) => read(core, conn, notes),
+        task => step(core, task, notes),
+    }
+}
+
 // One small step of the task on top.
+#[inline(never)]
 fn step(core: &mut WireCore, task: Task, notes: &mut Notes) -> Result<(), NoMemory>
     requires sound { IsSound core.old }
     requires top { top_go core.old.agenda ≡ task_go task }

@@ -26,5 +26,5 @@ returns-clause-octets c = record {
       let f = c.args.course.flow in
       let m = c.args.moved in
       let none = subst (λ (b : Bool). Told k t (if b then Some f.exchange else None) h g start core (c.args.notes.now ++ (pause_of f m.rose ++ (if b then [] else resume_of f m.drained)))) c.if-moved.false told in
-      c.drain_at.ensures.octets.goes h g start (c.in_ok-resume_where.ensures.octets.goes h g start (c.in_ok-note_pause.ensures.paid.front h g start _ _ _ _ none));
+      c.pass_body.ensures.octets.goes h g start (c.in_ok-resume_where.ensures.octets.goes h g start (c.in_ok-note_pause.ensures.paid.front h g start _ _ _ _ none));
 }
