@@ -1,0 +1,4 @@
+pub mod Allowed
+pub mod Played
+pub mod ShedLines
+pub mod ShedTapes
