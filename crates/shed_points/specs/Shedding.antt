@@ -7,7 +7,7 @@ use Rattle.proxy_config.specs.declared.overload.Point.{Point}
 use Rattle.proxy_config.specs.declared.overload.ShedRow.{ShedRow}
 use Rattle.shed_points.specs.declared.shedder.Standing.{Standing}
 use Rattle.shed_points.specs.declared.verdict.Verdict.{Verdict}
-use Rattle.std.specs.Prelude.{Bool, List, None, Option, Some, [], false, filter, if◌then◌else◌, map, nat_lt, slice_index, sum, true, ℕ, ◌+◌, ◌/◌, ◌==◌, ◌∷◌}
+use Rattle.std.specs.Prelude.{Bool, List, None, Option, Some, [], false, filter, if◌then◌else◌, map, nat_lt, slice_index, true, ℕ, ◌+◌, ◌/◌, ◌==◌, ◌∷◌}
 use Rattle.flow_notes.specs.declared.events.Event.TheVariants as event
 use Rattle.proxy_config.specs.declared.overload.Point.TheVariants as point
 use Rattle.shed_points.specs.declared.shedder.Standing.TheVariants as standing
@@ -29,9 +29,17 @@ is_same point.Read point.Read = true
 is_same point.Drain point.Drain = true
 is_same p q = false
 
--- at these pressures: the greatest state of its rows, 0 without one
+-- that of a row at these pressures
+abbrev pub row_state : ShedRow → List ℕ → ℕ
+row_state row pressures = state_of row.form (slice_index pressures row.resource)
+
+-- of a row of this point, and 0 of another
+abbrev pub state_at : ShedRow → List ℕ → Point → ℕ
+state_at row pressures p = if is_same row.point p then row_state row pressures else 0
+
+-- at these pressures: the greatest of its rows, 0 without one
 abbrev pub point_state : List ShedRow → List ℕ → Point → ℕ
-point_state rows pressures p = greatest_of (map (λ (r : ShedRow). state_of r.form (slice_index pressures r.resource)) (filter (λ (r : ShedRow). is_same r.point p) rows))
+point_state rows pressures p = greatest_of (map (λ (r : ShedRow). row_state r pressures) (filter (λ (r : ShedRow). is_same r.point p) rows))
 
 -- after these events: at the pressures that were obeyed last, 0 before the first
 abbrev pub state_after : List ShedRow → Point → List Event → ℕ
@@ -70,14 +78,10 @@ abbrev pub is_point : Point → Option Point → Bool
 is_point p None = false
 is_point p (Some q) = is_same q p
 
--- the point's states at its arrivals
-abbrev pub states_at : List ShedRow → Point → List Judged → List ℕ
-states_at rows p [] = []
-states_at rows p (Became e v ∷ js) = if is_point p (arrives_at e js) then state_after rows p (e ∷ events_of js) ∷ states_at rows p js else states_at rows p js
-
--- each arrival adds the state of that moment
+-- the sum of the point's states at its arrivals, each that of its moment
 abbrev pub sum_at : List ShedRow → Point → List Judged → ℕ
-sum_at rows p js = sum (states_at rows p js)
+sum_at rows p [] = 0
+sum_at rows p (Became e v ∷ js) = if is_point p (arrives_at e js) then sum_at rows p js + state_after rows p (e ∷ events_of js) else sum_at rows p js
 
 -- ---- what is shed
 

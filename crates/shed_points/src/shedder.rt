@@ -1,7 +1,10 @@
 // What sheds the arrivals of a worker.
-ghost use Rattle.overload_core.specs.States.{state_of};
-ghost use Rattle.shed_points.specs.Shedding.{point_state};
-ghost use Rattle.std.specs.Prelude.{◌≡◌, ◌≤◌, slice_index};
+ghost use Rattle.shed_points.specs.Shedding.{is_same, point_state, row_state, state_at};
+ghost use Rattle.shed_points.specs.Dispatching.{Carries};
+ghost use Rattle.shed_points.specs.ShedList.{as_list, kept};
+ghost use Rattle.std.specs.Prelude.{◌≡◌, ◌∷◌, ◌≤◌, [], OnOk, if◌then◌else◌};
+ghost use Rattle.worker_core.specs.Sessions.{RestsWire};
+ghost use Rattle.shed_points.specs.declared.shedder.Standing.TheVariants as standing;
 
 use crate::share::Share;
 use crate::verdict::{Verdict, instead, keeps};
@@ -45,10 +48,14 @@ impl Shedder {
     ghost use Rattle.flow_notes.specs.declared.events.Event.{Event};
     ghost use Rattle.flow_notes.specs.declared.events.Event.TheVariants as event;
     ghost use Rattle.proxy_config.specs.declared.overload.ShedRow.{ShedRow};
+    ghost use Rattle.paged_map.specs.PagedMap.{value_at};
+    ghost use Rattle.proxy_config.specs.declared.overload.Point.{Point};
     ghost use Rattle.shed_points.specs.Dispatching.{Sheds};
     ghost use Rattle.shed_points.specs.Shedders.{Judges, ShedderIs, share_at};
-    ghost use Rattle.shed_points.specs.Shedding.{Judged, events_of, state_after};
-    ghost use Rattle.std.specs.Prelude.{◌≡◌, ◌≢◌, ◌≤◌, [], Err, IfOk, List, Ok, OnErr, OnOk, false, true, ℕ};
+    ghost use Rattle.shed_points.specs.Shedding.{Judged, events_of, is_shed, point_state, state_after};
+    ghost use Rattle.shed_points.specs.declared.shedder.Standing.TheVariants as standing;
+    ghost use Rattle.shed_points.specs.declared.verdict.Verdict.TheVariants as verdict;
+    ghost use Rattle.std.specs.Prelude.{◌≡◌, ◌≢◌, ◌≤◌, [], Err, IfOk, List, Ok, OnErr, OnOk, Some, false, if◌then◌else◌, true, ℕ};
     ghost use Rattle.worker_core.specs.Sessions.{RestsWire};
 
     /// Before the first event, under the shed table of a configuration: each state is 0. Refused only for lack of memory.
@@ -96,9 +103,11 @@ impl Shedder {
             Event::Accept { conn } => self.accept(*conn),
             Event::Read { conn, .. } => self.read(*conn),
             Event::Gone { conn } => Ok(self.go(*conn)),
-            Event::Room { conn, .. } => Ok(self.give_room(*conn)),
+            Event::Room { conn, .. } => Ok(self.silenced(*conn)),
             Event::Obey { pressures, .. } => self.obey(pressures.as_slice()),
-            _ => Ok(Verdict::Pass),
+            Event::Join { .. } | Event::Tick { .. } | Event::Post { .. } | Event::Plain(_) => {
+                Ok(Verdict::Pass)
+            }
         }
     }
 
@@ -137,15 +146,16 @@ impl Shedder {
         core: &mut Core,
         event: &Event,
         notes: &mut Notes,
-    ) -> Result<Verdict, NoMemory> {
+    ) -> Result<Verdict, NoMemory>
+        requires { RestsWire core.old.kind }
+        ensures sheds { Sheds self.old core.old.kind notes.old event.now self.new core.new.kind notes.new result }
+        ensures rests { OnOk result (RestsWire core.new.kind) }
+        ensures failed { self.new.failed ≡ self.old.failed }
+    {
         let posts = self.posts;
         let verdict = self.judge(event)?;
-        if keeps(verdict) {
-            dispatch(carry, core, event, notes)?;
-        }
-        if let Some(stead) = instead(event, verdict, posts) {
-            dispatch(carry, core, &stead, notes)?;
-        }
+        dispatch_kept(carry, core, event, verdict, notes)?;
+        dispatch_stead(carry, core, instead(event, verdict, posts), notes)?;
         Ok(verdict)
     }
 
@@ -153,11 +163,7 @@ impl Shedder {
         ensures judged { Judges self.old (event.Accept conn) self.new result }
         ensures failed { self.new.failed ≡ self.old.failed }
     {
-        let standing = if self.accept.is_due() {
-            Standing::Shed
-        } else {
-            Standing::Served
-        };
+        let standing = accepted(self.accept.is_due());
         self.clients.put(conn, standing)?;
         Ok(self.accept.arrive(Point::Accept))
     }
@@ -173,10 +179,16 @@ impl Shedder {
         }
     }
 
-    fn read_served(&mut self, conn: u32) -> Result<Verdict, NoMemory> {
-        if self.read.is_due() {
-            self.clients.put(conn, Standing::Shed)?;
+    // A read of a connection that wasn't shed.
+    fn read_served(&mut self, conn: u32) -> Result<Verdict, NoMemory>
+        requires { value_at conn self.old.clients ≡ Some standing.Served }
+        ensures judged { (octets : List ℕ) → Judges self.old (event.Read conn octets) self.new result }
+        ensures failed { self.new.failed ≡ self.old.failed }
+    {
+        if !self.read.is_due() {
+            return Ok(self.read.arrive(Point::Read));
         }
+        self.clients.put(conn, Standing::Shed)?;
         Ok(self.read.arrive(Point::Read))
     }
 
@@ -184,14 +196,14 @@ impl Shedder {
         ensures judged { Judges self.old (event.Gone conn) self.new (Ok result) }
         ensures failed { self.new.failed ≡ self.old.failed }
     {
-        match self.clients.remove(&conn) {
-            Some(Standing::Shed) => Verdict::Silent,
-            _ => Verdict::Pass,
-        }
+        let verdict = self.silenced(conn);
+        self.clients.remove(&conn);
+        verdict
     }
 
-    fn give_room(&self, conn: u32) -> Verdict
-        ensures { (n : ℕ) → Judges self.now (event.Room conn n) self.now (Ok result) }
+    // An event of a connection that arrives nowhere.
+    fn silenced(&self, conn: u32) -> Verdict
+        ensures { result ≡ (if is_shed (value_at conn self.now.clients) then verdict.Silent else verdict.Pass) }
     {
         match self.clients.get(&conn) {
             Some(Standing::Shed) => Verdict::Silent,
@@ -208,13 +220,18 @@ impl Shedder {
             return Err(NoMemory);
         }
         self.set_states(pressures);
-        if self.drain.is_due() {
-            self.posts += 1;
+        if !self.drain.is_due() {
+            return Ok(self.drain.arrive(Point::Drain));
         }
+        self.posts += 1;
         Ok(self.drain.arrive(Point::Drain))
     }
 
-    fn set_states(&mut self, pressures: &[u32]) {
+    fn set_states(&mut self, pressures: &[u32])
+        ensures states { (p : Point) → (share_at p self.new).state ≡ point_state self.old.rows.items pressures.now p }
+        ensures rests { (p : Point) → (share_at p self.new).rest ≡ (share_at p self.old).rest }
+        ensures others { (self.new.rows ≡ self.old.rows) × (self.new.clients ≡ self.old.clients) × (self.new.posts ≡ self.old.posts) × (self.new.failed ≡ self.old.failed) }
+    {
         let rows = self.rows.as_slice();
         self.accept = self.accept.under(point_state(rows, pressures, Point::Accept));
         self.read = self.read.under(point_state(rows, pressures, Point::Read));
@@ -222,13 +239,63 @@ impl Shedder {
     }
 }
 
-// One dispatch to the core, which hasn't failed.
-fn dispatch<D: CarryOut>(
+// What a client's connection is that is shed as it comes, or isn't.
+fn accepted(is_shed: bool) -> Standing
+    ensures { result ≡ (if is_shed then standing.Shed else standing.Served) }
+{
+    if is_shed {
+        Standing::Shed
+    } else {
+        Standing::Served
+    }
+}
+
+// Dispatches the event itself, where it is dispatched.
+fn dispatch_kept<D: CarryOut>(
+    carry: &D,
+    core: &mut Core,
+    event: &Event,
+    verdict: Verdict,
+    notes: &mut Notes,
+) -> Result<(), NoMemory>
+    requires { RestsWire core.old.kind }
+    ensures carries { Carries core.old.kind notes.old (kept event.now verdict) core.new.kind notes.new result }
+    ensures rests { OnOk result (RestsWire core.new.kind) }
+{
+    if keeps(verdict) {
+        dispatch_one(carry, core, event, notes)
+    } else {
+        Ok(())
+    }
+}
+
+// Dispatches what stands for an event that was shed, if anything does.
+fn dispatch_stead<D: CarryOut>(
+    carry: &D,
+    core: &mut Core,
+    stead: Option<Event>,
+    notes: &mut Notes,
+) -> Result<(), NoMemory>
+    requires { RestsWire core.old.kind }
+    ensures carries { Carries core.old.kind notes.old (as_list stead) core.new.kind notes.new result }
+    ensures rests { OnOk result (RestsWire core.new.kind) }
+{
+    match stead {
+        Some(event) => dispatch_one(carry, core, &event, notes),
+        None => Ok(()),
+    }
+}
+
+fn dispatch_one<D: CarryOut>(
     carry: &D,
     core: &mut Core,
     event: &Event,
     notes: &mut Notes,
-) -> Result<(), NoMemory> {
+) -> Result<(), NoMemory>
+    requires { RestsWire core.old.kind }
+    ensures carries { Carries core.old.kind notes.old (event.now ∷ []) core.new.kind notes.new result }
+    ensures rests { OnOk result (RestsWire core.new.kind) }
+{
     match core.dispatch(carry, event, notes) {
         Ok(()) => Ok(()),
         Err(_) => Err(NoMemory),
@@ -241,17 +308,39 @@ fn point_state(rows: &[ShedRow], pressures: &[u32], point: Point) -> u32
     ensures most { result ≤ 1000000 }
 {
     let mut most: u32 = 0;
-    for row in rows {
-        if row.point == point {
-            most = most.max(row_state(row, pressures));
-        }
+    let mut rest = rows;
+    while let Some((row, after)) = rest.split_first() {
+        most = most.max(state_at(row, pressures, point));
+        rest = after;
     }
     most
 }
 
+// The state of a row of this point, and 0 of another.
+fn state_at(row: &ShedRow, pressures: &[u32], point: Point) -> u32
+    ensures state { result ≡ state_at row.now pressures.now point }
+    ensures most { result ≤ 1000000 }
+{
+    if is_same(row.point, point) {
+        row_state(row, pressures)
+    } else {
+        0
+    }
+}
+
+fn is_same(one: Point, other: Point) -> bool
+    ensures { result ≡ is_same one other }
+{
+    match one {
+        Point::Accept => matches!(other, Point::Accept),
+        Point::Read => matches!(other, Point::Read),
+        Point::Drain => matches!(other, Point::Drain),
+    }
+}
+
 // The state of a row is that of a trigger of its form. A resource without a pressure has the pressure 0.
 fn row_state(row: &ShedRow, pressures: &[u32]) -> u32
-    ensures state { result ≡ state_of row.now.form (slice_index pressures.now row.now.resource) }
+    ensures state { result ≡ row_state row.now pressures.now }
     ensures most { result ≤ 1000000 }
 {
     let trigger = Trigger {

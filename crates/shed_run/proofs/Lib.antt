@@ -1,0 +1,7 @@
+mod Following
+mod Lining
+mod Listing
+mod Parts
+mod Playing
+mod Retelling
+mod Texts

@@ -1,4 +1,5 @@
 pub mod Allowed
+pub mod Parts
 pub mod Played
 pub mod ShedLines
 pub mod ShedTapes

@@ -72,3 +72,14 @@ HappensAs old e new config seen after h text_old text_new (Err x) = text_new ≡
 pub record PlaysEvent (old : ShedPlay) (e : Event) (text_old : List ℕ) (new : ShedPlay) (text_new : List ℕ) (result : Result Went NoMemory) : Type 0 where
   pub goes : (config : Config) (seen after : WireSeen) (h : History NoMark) → old.play.lines.names ≡ names_in config → wire_events after ≡ e ∷ wire_events seen → IsShedSeen (names_in config) (resources_in config) after → PlayIs old config seen h
       → HappensAs old e new config seen after h text_old text_new result
+
+-- the event may come next
+pub record CanTake (play : ShedPlay) (e : Event) : Type 0 where
+  pub config : Config
+  pub seen : WireSeen
+  pub after : WireSeen
+  pub history : History NoMark
+  pub named : play.play.lines.names ≡ names_in config
+  pub is : PlayIs play config seen history
+  pub more : wire_events after ≡ e ∷ wire_events seen
+  pub may : IsShedSeen (names_in config) (resources_in config) after

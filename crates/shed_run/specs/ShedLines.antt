@@ -6,6 +6,7 @@ use Rattle.proxy_config.specs.declared.overload.ShedRow.{ShedRow}
 use Rattle.session_lines.specs.WireLines.{Behind, IsWireSeen, NoLine, SpellsNoWire, SpellsWire, WireEvent, WireSeen, wire_events}
 use Rattle.shed_points.specs.ShedList.{dispatched, kept, shed_list, shed_poster}
 use Rattle.shed_points.specs.Shedding.{Became, Judged}
+use Rattle.shed_points.specs.declared.verdict.Verdict.{Verdict}
 use Rattle.std.specs.Fmt.{decimal}
 use Rattle.std.specs.List.{AllByRecursion}
 use Rattle.std.specs.Prelude.{Bool, List, [], codes, false, if◌then◌else◌, length, suc, true, ℕ, ◌++◌, ◌+◌, ◌==◌, ◌∷◌, ◌≡◌, ◌⊎◌}
@@ -61,6 +62,11 @@ abbrev pub conn_of : Event → ℕ
 conn_of (event.Accept c) = c
 conn_of (event.Read c octets) = c
 conn_of e = 0
+
+-- the line of an event with this number, if it is shed
+abbrev pub line_told : Event → Verdict → ℕ → List ℕ
+line_told e (verdict.Shed p state) number = shed_line (record { number = number; point = p; conn = conn_of e; state = state })
+line_told e v number = []
 
 -- a line, and behind how many dispatches it stands
 pub data Placed : Type 0 where

@@ -2,7 +2,7 @@
 ghost use Rattle.shed_run.specs.ShedLines.{is_own};
 ghost use Rattle.std.specs.Prelude.{◌≡◌};
 
-use crate::line::{conn_of, put_shed};
+use crate::line::put_line;
 use flow_notes::Event;
 use io_ports::{NoMemory, Octets};
 use proxy_config::Config;
@@ -23,12 +23,13 @@ pub struct ShedPlay {
 
 impl ShedPlay {
     ghost use Rattle.config_tables.specs.Reading.{config_of};
-    ghost use Rattle.flow_notes.specs.Event.{IsEvent};
+    ghost use Rattle.flow_notes.specs.Extends.{Extends};
     ghost use Rattle.proxy_config.specs.Ranges.{IsInRange};
     ghost use Rattle.session_run.specs.Runs.{Begins};
-    ghost use Rattle.shed_run.specs.Played.{PlaysEvent, PlaysVerdict, shed_kind};
-    ghost use Rattle.std.specs.Prelude.{◌≡◌, IfOk, List, Ok, ℕ, false};
-    ghost use Rattle.wire_state.specs.Sound.{IsSound};
+    ghost use Rattle.shed_points.specs.ShedList.{as_list, kept};
+    ghost use Rattle.shed_run.specs.Parts.{MayPlay, Plays, PlaysAs};
+    ghost use Rattle.shed_run.specs.Played.{CanTake, PlaysEvent, shed_kind};
+    ghost use Rattle.std.specs.Prelude.{◌≡◌, ◌++◌, ◌∷◌, [], IfOk, List, Ok, OnErr, OnOk, ℕ};
 
     /// Before the first line of a session under this configuration. Refused only for lack of memory.
     pub fn new(alloc: Global, config: Config) -> Result<Self, NoMemory>
@@ -59,8 +60,7 @@ impl ShedPlay {
 
     // Judges an event, plays what it comes to, and appends the notes with the line of what was shed, or leaves the text as it was.
     fn event(&mut self, event: &Event, text: &mut Octets) -> Result<Went, NoMemory>
-        requires sound { self.old.play.session.failed ≡ false → IsSound self.old.play.session.core }
-        requires event { IsEvent self.old.play.lines.names event.now }
+        requires { CanTake self.old event.now }
         ensures { PlaysEvent self.old event.now text.old self.new text.new result }
     {
         let Some(number) = self.events.checked_add(1) else {
@@ -69,13 +69,29 @@ impl ShedPlay {
         self.events = number;
         let posts = self.shedder.posts();
         let verdict = self.shedder.judge(event)?;
-        let stead = instead(event, verdict, posts);
+        self.play_whole(event, verdict, instead(event, verdict, posts), text)?;
+        Ok(Went::On)
+    }
+
+    // The same as `play_as`, but after running out of memory the text is as it was.
+    fn play_whole(
+        &mut self,
+        event: &Event,
+        verdict: Verdict,
+        stead: Option<Event>,
+        text: &mut Octets,
+    ) -> Result<(), NoMemory>
+        requires { MayPlay self.old.play (kept event.now verdict ++ as_list stead) }
+        ensures ok { OnOk result (PlaysAs self.old.play event.now verdict self.old.events (kept event.now verdict) (as_list stead) text.old self.new.play text.new) }
+        ensures err { OnErr result (text.new ≡ text.old) }
+        ensures others { (self.new.shedder ≡ self.old.shedder) × (self.new.events ≡ self.old.events) }
+    {
         let whole = text.len();
         if let Err(error) = self.play_as(event, verdict, stead, text) {
             text.truncate(whole);
             return Err(error);
         }
-        Ok(Went::On)
+        Ok(())
     }
 
     // Plays the event, where it is dispatched, and what is dispatched in its stead; between them stands its line, where it was shed.
@@ -85,16 +101,54 @@ impl ShedPlay {
         verdict: Verdict,
         stead: Option<Event>,
         text: &mut Octets,
-    ) -> Result<(), NoMemory> {
+    ) -> Result<(), NoMemory>
+        requires { MayPlay self.old.play (kept event.now verdict ++ as_list stead) }
+        ensures ok { OnOk result (PlaysAs self.old.play event.now verdict self.old.events (kept event.now verdict) (as_list stead) text.old self.new.play text.new) }
+        ensures err { OnErr result (Extends text.old text.new) }
+        ensures others { (self.new.shedder ≡ self.old.shedder) × (self.new.events ≡ self.old.events) }
+    {
+        self.play_kept(event, verdict, text)?;
+        put_line(text, self.events, event, verdict)?;
+        self.play_stead(stead, text)
+    }
+
+    fn play_kept(
+        &mut self,
+        event: &Event,
+        verdict: Verdict,
+        text: &mut Octets,
+    ) -> Result<(), NoMemory>
+        requires { MayPlay self.old.play (kept event.now verdict) }
+        ensures ok { OnOk result (Plays self.old.play (kept event.now verdict) text.old self.new.play text.new) }
+        ensures err { OnErr result (text.new ≡ text.old) }
+        ensures others { (self.new.shedder ≡ self.old.shedder) × (self.new.events ≡ self.old.events) }
+    {
         if keeps(verdict) {
-            self.play.event(event, text)?;
+            self.play_one(event, text)
+        } else {
+            Ok(())
         }
-        if let Verdict::Shed { point, state } = verdict {
-            put_shed(text, self.events, point, conn_of(event), state)?;
+    }
+
+    fn play_stead(&mut self, stead: Option<Event>, text: &mut Octets) -> Result<(), NoMemory>
+        requires { MayPlay self.old.play (as_list stead) }
+        ensures ok { OnOk result (Plays self.old.play (as_list stead) text.old self.new.play text.new) }
+        ensures err { OnErr result (text.new ≡ text.old) }
+        ensures others { (self.new.shedder ≡ self.old.shedder) × (self.new.events ≡ self.old.events) }
+    {
+        match stead {
+            Some(event) => self.play_one(&event, text),
+            None => Ok(()),
         }
-        if let Some(event) = stead {
-            self.play.event(&event, text)?;
-        }
+    }
+
+    fn play_one(&mut self, event: &Event, text: &mut Octets) -> Result<(), NoMemory>
+        requires { MayPlay self.old.play (event.now ∷ []) }
+        ensures ok { OnOk result (Plays self.old.play (event.now ∷ []) text.old self.new.play text.new) }
+        ensures err { OnErr result (text.new ≡ text.old) }
+        ensures others { (self.new.shedder ≡ self.old.shedder) × (self.new.events ≡ self.old.events) }
+    {
+        self.play.event(event, text)?;
         Ok(())
     }
 }

@@ -1,0 +1,165 @@
+-- The lines of a session, one after another.
+use Rattle.config_tables.specs.Reading.{config_of}
+use Rattle.flow_notes.specs.Line.{newline}
+use Rattle.flow_notes.specs.Name.{AreNames}
+use Rattle.flow_notes.specs.declared.events.Event.{Event}
+use Rattle.io_ports.specs.declared.octets.NoMemory.{NoMemory}
+use Rattle.proxy_config.specs.declared.config.Config.{Config}
+use Rattle.session_config.specs.ClusterNames.{names_in, resources_in}
+use Rattle.session_lines.specs.WireLines.{Behind, NoLine, ReadsWireLine, SpellsWire, WireEvent, WireHeader, WireItem, WireLinesAre, WireSeen, wire_events, wire_more, wire_read}
+use Rattle.session_lines.specs.declared.order.LineRead.{LineRead}
+use Rattle.session_lines.specs.declared.wire_lines.WireLines.{WireLines}
+use Rattle.session_run.specs.Players.{IsPlaying, PlayedAs, PlaysLine}
+use Rattle.session_run.specs.Runs.{Begins}
+use Rattle.session_run.specs.declared.player.Went.{Went}
+use Rattle.shed_points.specs.Shedders.{ShedderIs}
+use Rattle.shed_run.specs.Played.{CanTake, HappensAs, PlayIs, Played, PlaysEvent, RefusesLine, shed_kind}
+use Rattle.shed_run.specs.ShedLines.{IsShedSeen, SpellsOwn, is_own}
+use Rattle.shed_run.specs.ShedTapes.{lines_of, text_with}
+use Rattle.shed_run.specs.declared.play.ShedPlay.{ShedPlay}
+use Rattle.std.proofs.Common.{ap, append-nil, inl, inr, refl, subst, sym, ◌∙◌}
+use Rattle.std.specs.Prelude.{Bool, Err, List, Ok, Result, [], false, suc, true, ℕ, ◌++◌, ◌∷◌, ◌≡◌, ◌⊎◌}
+use Rattle.tape_laws.specs.History.{History, NoMark}
+use Rattle.tape_laws.specs.declared.PlainLimits.{PlainLimits}
+use Rattle.wire_run.proofs.Playing.{lines_more, read_as, text_more}
+use Rattle.wire_run.specs.Played.{PlayRests}
+use Rattle.session_lines.specs.declared.order.LineRead.TheVariants as read
+use Rattle.session_run.specs.declared.player.Went.TheVariants as went
+
+-- ---- the header
+
+module _ (old new : ShedPlay) (rests : (config : Config) (h : History NoMark) → PlayRests old.play config h → PlayRests new.play config h) (shedder : new.shedder ≡ old.shedder) (events : new.events ≡ old.events) where
+  -- where a line alone was read, the play stands as it did
+  pub still : (config : Config) (seen : WireSeen) (h : History NoMark) → PlayIs old config seen h → PlayIs new config seen h
+  still config seen h k = record { shedder = rw shedder k.shedder; events = events ∙ k.events; rests = rests config h k.rests; may = k.may; tape = k.tape }
+
+  header_is : (config : Config) (seen : WireSeen) (line : List ℕ) (item : WireItem) (h : History NoMark) → SpellsWire (names_in config) (resources_in config) seen line item → read.Header ≡ wire_read item → PlayIs old config seen h → PlayIs new config (wire_more seen item) h
+  header_is config NoLine line WireHeader h s e k = record {
+    shedder = rw shedder k.shedder;
+    events = events ∙ k.events;
+    rests = rests config h k.rests;
+    may = record { may = tt; none_own = tt };
+    tape = record { may = tt; shown = k.tape.shown; in_order = k.tape.in_order; spelled = k.tape.spelled; octets = k.tape.octets };
+  }
+  header_is config (Behind es) line WireHeader h s e k = absurd s.may
+  header_is config seen line (WireEvent f) h s e k = cc
+
+  no_events : (config : Config) (seen : WireSeen) (line : List ℕ) (item : WireItem) → SpellsWire (names_in config) (resources_in config) seen line item → read.Header ≡ wire_read item → wire_events (wire_more seen item) ≡ wire_events seen
+  no_events config NoLine line WireHeader s e = refl
+  no_events config (Behind es) line WireHeader s e = absurd s.may
+  no_events config seen line (WireEvent f) s e = cc
+
+  pub header_played : (line text_old text_new : List ℕ) → ReadsWireLine old.play.lines line new.play.lines (Ok read.Header) → text_new ≡ text_old → PlaysLine shed_kind old line text_old new text_new (Ok went.On)
+  header_played line text_old text_new r same = record {
+    goes = λ config lines count told k.
+        let a = r.goes (names_in k.config) (resources_in k.config) k.seen k.read in
+        record {
+          added = [];
+          text = same ∙ sym (append-nil text_old);
+          stands = record {
+            config = k.config;
+            configured = k.configured;
+            named = k.named;
+            seen = wire_more k.seen a.item;
+            history = k.history;
+            read = a.lines;
+            is = header_is k.config k.seen line a.item k.history a.spells a.read k.is;
+            lines_are = ap (λ (v : List ℕ). v ++ (line ++ newline)) k.lines_are ∙ sym (text_more (names_in k.config) (resources_in k.config) k.seen line a.item a.spells);
+            count_is = ap suc k.count_is ∙ sym (lines_more (names_in k.config) (resources_in k.config) k.seen line a.item a.spells);
+            told_is = append-nil told ∙ k.told_is ∙ ap (λ (l : List Event). text_with (names_in k.config) (lines_of k.config.overload.shed l) k.history) (sym (no_events k.config k.seen line a.item a.spells a.read));
+          };
+        };
+  }
+
+-- ---- lines that are refused
+
+pub line_refused : (old new : ShedPlay) (line : List ℕ) (lines : WireLines) (text_old text_new : List ℕ) → ReadsWireLine old.play.lines line lines (Ok read.Refused) → text_new ≡ text_old → PlaysLine shed_kind old line text_old new text_new (Ok went.Refused)
+line_refused old new line lines text_old text_new r same = record { goes = λ config ls count told k. (record { goes = λ names resources seen w. inl (r.goes names resources seen w).none }, same) }
+
+-- no line of a wire session is a line of limits
+pub limits_refused : (old new : ShedPlay) (line : List ℕ) (lines : WireLines) (limits : PlainLimits) (text_old text_new : List ℕ) → ReadsWireLine old.play.lines line lines (Ok (read.Limits limits)) → text_new ≡ text_old → PlaysLine shed_kind old line text_old new text_new (Ok went.Refused)
+limits_refused old new line lines limits text_old text_new r same = record { goes = λ config ls count told k. (record { goes = λ names resources seen w. (let a = r.goes names resources seen w in absurd (other a.item a.read)) }, same) }
+  where
+    other : (item : WireItem) → read.Limits limits ≡ wire_read item → ⊥
+    other WireHeader e = cc
+    other (WireEvent e) q = cc
+
+-- the line was read as the event that it spells
+spelled : (names : List (List ℕ)) (resources : ℕ) (seen : WireSeen) (line : List ℕ) (item : WireItem) (e : Event) → SpellsWire names resources seen line item → read.Event e ≡ wire_read item → SpellsWire names resources seen line (WireEvent e)
+spelled names resources seen line WireHeader e s q = cc
+spelled names resources seen line (WireEvent f) e s q = let P : Event → Type 0 = λ v. SpellsWire names resources seen line (WireEvent v) in let same : f ≡ e = cc in subst P same s
+
+pub own_refused : (old new : ShedPlay) (line : List ℕ) (lines : WireLines) (e : Event) (text_old text_new : List ℕ) → ReadsWireLine old.play.lines line lines (Ok (read.Event e)) → is_own e ≡ true → text_new ≡ text_old → PlaysLine shed_kind old line text_old new text_new (Ok went.Refused)
+own_refused old new line lines e text_old text_new r own same = record {
+  goes = λ config ls count told k. (record {
+    goes = λ names resources seen w.
+        let a = r.goes names resources seen w in
+        inr (record { own = e; spells = spelled names resources seen line a.item e a.spells a.read; is = own });
+  }, same);
+}
+
+-- ---- an event
+
+-- the event of the next line
+record NextEvent (config : Config) (seen : WireSeen) (item : WireItem) (e : Event) : Type 0 where
+  events : wire_events (wire_more seen item) ≡ e ∷ wire_events seen
+  may : IsShedSeen (names_in config) (resources_in config) seen → IsShedSeen (names_in config) (resources_in config) (wire_more seen item)
+
+next_event : (config : Config) (seen : WireSeen) (line : List ℕ) (item : WireItem) (e : Event) → SpellsWire (names_in config) (resources_in config) seen line item → read.Event e ≡ wire_read item → is_own e ≡ false → NextEvent config seen item e
+next_event config seen line WireHeader e s q own = cc
+next_event config NoLine line (WireEvent f) e s q own = absurd s.may
+next_event config (Behind es) line (WireEvent f) e s q own =
+    let same : f ≡ e = cc in
+    record { events = ap (λ v. v ∷ es) same; may = λ m. record { may = (s.may, m.may); none_own = (ap is_own same ∙ own, m.none_own) } }
+
+module _ (old mid : ShedPlay) (line : List ℕ) (e : Event) (r : ReadsWireLine old.play.lines line mid.play.lines (Ok (read.Event e))) (own : is_own e ≡ false)
+    (rests : (config : Config) (h : History NoMark) → PlayRests old.play config h → PlayRests mid.play config h) (shedder : mid.shedder ≡ old.shedder) (events : mid.events ≡ old.events) where
+
+  pub can_take : IsPlaying shed_kind old → CanTake mid e
+  can_take playing =
+      let k = playing.stands in
+      let a = r.goes (names_in k.config) (resources_in k.config) k.seen k.read in
+      let n = next_event k.config k.seen line a.item e a.spells a.read own in
+      record {
+        config = k.config;
+        seen = k.seen;
+        after = wire_more k.seen a.item;
+        history = k.history;
+        named = a.lines.names_are;
+        is = still old mid rests shedder events k.config k.seen k.history k.is;
+        more = n.events;
+        may = n.may k.is.may;
+      }
+
+  pub event_line_played : (new : ShedPlay) (text_old text_new : List ℕ) (result : Result Went NoMemory) → PlaysEvent mid e text_old new text_new result → PlaysLine shed_kind old line text_old new text_new result
+  event_line_played new text_old text_new result p = record {
+    goes = λ config lines count told k.
+        let a = r.goes (names_in k.config) (resources_in k.config) k.seen k.read in
+        let n = next_event k.config k.seen line a.item e a.spells a.read own in
+        by config lines count told k result
+        (p.goes k.config k.seen (wire_more k.seen a.item) k.history a.lines.names_are n.events (n.may k.is.may) (still old mid rests shedder events k.config k.seen k.history k.is));
+  }
+    where
+      by : (config lines : List ℕ) (count : ℕ) (told : List ℕ) (k : Played old config lines count told) (result : Result Went NoMemory)
+          → HappensAs mid e new k.config k.seen (wire_more k.seen (r.goes (names_in k.config) (resources_in k.config) k.seen k.read).item) k.history text_old text_new result
+          → PlayedAs shed_kind old new line config lines count told text_old text_new result
+      by config lines count told k (Ok went.On) d =
+          let a = r.goes (names_in k.config) (resources_in k.config) k.seen k.read in
+          record {
+            added = d.added;
+            text = d.text;
+            stands = record {
+              config = k.config;
+              configured = k.configured;
+              named = k.named;
+              seen = wire_more k.seen a.item;
+              history = d.history;
+              read = (let P : WireLines → Type 0 = λ v. WireLinesAre v (names_in k.config) (resources_in k.config) (wire_more k.seen a.item) in subst P (sym d.lines) a.lines);
+              is = d.is;
+              lines_are = ap (λ (v : List ℕ). v ++ (line ++ newline)) k.lines_are ∙ sym (text_more (names_in k.config) (resources_in k.config) k.seen line a.item a.spells);
+              count_is = ap suc k.count_is ∙ sym (lines_more (names_in k.config) (resources_in k.config) k.seen line a.item a.spells);
+              told_is = ap (λ (v : List ℕ). v ++ d.added) k.told_is ∙ sym d.told;
+            };
+          }
+      by config lines count told k (Ok went.Refused) d = absurd d
+      by config lines count told k (Err x) d = d
