@@ -41,15 +41,16 @@ shed_other : (q p : Point) (e : Event) (x : ℕ) (b : Bool) (js : List Judged) �
 shed_other q p e x true js other = ap (λ t. if t then shed_at q js + 1 else shed_at q js) other
 shed_other q p e x false js other = refl
 
+-- the sum with an arrival at this point, if it is one
+abbrev sum_with : List ShedRow → Point → Event → List Judged → Option Point → ℕ
+sum_with rows p e js o = if is_point p o then sum_at rows p js + state_after rows p (e ∷ events_of js) else sum_at rows p js
+
 module _ (rows : List ShedRow) (p : Point) (e : Event) (js : List Judged) (before : shed_at p js ≡ sum_at rows p js / 1000000) where
   abbrev s : ℕ
   s = sum_at rows p js
 
   abbrev x : ℕ
   x = state_after rows p (e ∷ events_of js)
-
-  abbrev sum_by : Option Point → ℕ
-  sum_by o = if is_point p o then s + x else s
 
   at_own : is_same p p ≡ true → shed_at p (Became e (share_of p s x) ∷ js) ≡ (s + x) / 1000000
   at_own same = shed_own p e x (grows s x) js same ∙ ap (λ n. if grows s x then n + 1 else n) before ∙ sym (wholes s x (state_bounded rows p (e ∷ events_of js)))
@@ -58,7 +59,7 @@ module _ (rows : List ShedRow) (p : Point) (e : Event) (js : List Judged) (befor
   at_other q other = shed_other p q e (state_after rows q (e ∷ events_of js)) (grows (sum_at rows q js) (state_after rows q (e ∷ events_of js))) js other ∙ before
 
 by_point : (rows : List ShedRow) (p q : Point) (e : Event) (js : List Judged) → shed_at p js ≡ sum_at rows p js / 1000000
-    → shed_at p (Became e (share_of q (sum_at rows q js) (state_after rows q (e ∷ events_of js))) ∷ js) ≡ sum_by rows p e js (Some q) / 1000000
+    → shed_at p (Became e (share_of q (sum_at rows q js) (state_after rows q (e ∷ events_of js))) ∷ js) ≡ sum_with rows p e js (Some q) / 1000000
 by_point rows point.Accept point.Accept e js before = at_own rows point.Accept e js before refl
 by_point rows point.Accept point.Read e js before = at_other rows point.Accept e js before point.Read refl
 by_point rows point.Accept point.Drain e js before = at_other rows point.Accept e js before point.Drain refl
@@ -70,13 +71,13 @@ by_point rows point.Drain point.Read e js before = at_other rows point.Drain e j
 by_point rows point.Drain point.Drain e js before = at_own rows point.Drain e js before refl
 
 by_arrival : (rows : List ShedRow) (p : Point) (e : Event) (js : List Judged) (o : Option Point) → shed_at p js ≡ sum_at rows p js / 1000000
-    → shed_at p (Became e (verdict_at rows e js o) ∷ js) ≡ sum_by rows p e js o / 1000000
+    → shed_at p (Became e (verdict_at rows e js o) ∷ js) ≡ sum_with rows p e js o / 1000000
 by_arrival rows p e js None before = before
 by_arrival rows p e js (Some q) before = by_point rows p q e js before
 
 by_silence : (rows : List ShedRow) (p : Point) (e : Event) (js : List Judged) (b : Bool) → is_silent e js ≡ b → shed_at p js ≡ sum_at rows p js / 1000000
-    → shed_at p (Became e (if b then verdict.Silent else verdict_at rows e js (arrives_at e js)) ∷ js) ≡ sum_by rows p e js (arrives_at e js) / 1000000
-by_silence rows p e js true is before = before ∙ sym (ap (λ o. sum_by rows p e js o / 1000000) (silent_nowhere e js is))
+    → shed_at p (Became e (if b then verdict.Silent else verdict_at rows e js (arrives_at e js)) ∷ js) ≡ sum_with rows p e js (arrives_at e js) / 1000000
+by_silence rows p e js true is before = before ∙ sym (ap (λ o. sum_with rows p e js o / 1000000) (silent_nowhere e js is))
 by_silence rows p e js false is before = by_arrival rows p e js (arrives_at e js) before
 
 pub counted : (rows : List ShedRow) (p : Point) (es : List Event) → shed_at p (judged rows es) ≡ sum_at rows p (judged rows es) / 1000000

@@ -6,14 +6,14 @@ use Rattle.paged_map.specs.PagedMap.{PagedMap, Updates, value_at}
 use Rattle.proxy_config.specs.declared.overload.Point.{Point}
 use Rattle.proxy_config.specs.declared.overload.ShedRow.{ShedRow}
 use Rattle.shed_points.proofs.Sums.{due_is, rest_is}
-use Rattle.shed_points.specs.Shedders.{Judges, ShedderIs, share_at}
+use Rattle.shed_points.specs.Shedders.{IsNumbered, Judges, ShedderIs, share_at}
 use Rattle.shed_points.specs.Shedding.{Became, Judged, accepted_as, events_of, grows, is_point, is_same, is_shed, point_state, read_point, share_of, shed_at, standing_of, state_after, sum_at, verdict_at}
 use Rattle.shed_points.specs.declared.shedder.Shedder.{Shedder}
 use Rattle.shed_points.specs.declared.shedder.Standing.{Standing}
 use Rattle.shed_points.specs.declared.verdict.Verdict.{Verdict}
 use Rattle.std.proofs.Common.{ap, arith, refl, subst, sym, ◌∙◌}
 use Rattle.std.specs.Cmp.{unsigned_tied}
-use Rattle.std.specs.Prelude.{Bool, List, None, Ok, Option, Some, cond, false, if◌then◌else◌, nat_le, true, ℕ, ◌%◌, ◌+◌, ◌==◌, ◌∷◌, ◌≡◌, ◌≤◌}
+use Rattle.std.specs.Prelude.{Bool, List, None, Ok, Option, Some, cond, false, if◌then◌else◌, nat_le, true, ℕ, ◌%◌, ◌+◌, ◌<◌, ◌==◌, ◌^◌, ◌∷◌, ◌≡◌, ◌≤◌}
 use Rattle.flow_notes.specs.declared.events.Event.TheVariants as event
 use Rattle.proxy_config.specs.declared.overload.Point.TheVariants as point
 use Rattle.shed_points.specs.declared.shedder.Standing.TheVariants as standing
@@ -22,22 +22,26 @@ use Rattle.shed_points.specs.declared.verdict.Verdict.TheVariants as verdict
 -- ---- events that arrive nowhere
 
 pub join_passes : (s : Shedder) (c k : ℕ) → Judges s (event.Join c k) s (Ok verdict.Pass)
-join_passes s c k = record { goes = λ rows js i. (refl, record { rows_are = i.rows_are; states_are = i.states_are; rests_are = i.rests_are; clients_are = i.clients_are; posts_are = i.posts_are }) }
+join_passes s c k = record { goes = λ rows js i. (refl, tt, record { rows_are = i.rows_are; states_are = i.states_are; rests_are = i.rests_are; clients_are = i.clients_are; posts_are = i.posts_are }) }
 
 pub tick_passes : (s : Shedder) (now : ℕ) → Judges s (event.Tick now) s (Ok verdict.Pass)
-tick_passes s now = record { goes = λ rows js i. (refl, record { rows_are = i.rows_are; states_are = i.states_are; rests_are = i.rests_are; clients_are = i.clients_are; posts_are = i.posts_are }) }
+tick_passes s now = record { goes = λ rows js i. (refl, tt, record { rows_are = i.rows_are; states_are = i.states_are; rests_are = i.rests_are; clients_are = i.clients_are; posts_are = i.posts_are }) }
 
 pub post_passes : (s : Shedder) (p n : ℕ) (job : Job) → Judges s (event.Post p n job) s (Ok verdict.Pass)
-post_passes s p n job = record { goes = λ rows js i. (refl, record { rows_are = i.rows_are; states_are = i.states_are; rests_are = i.rests_are; clients_are = i.clients_are; posts_are = i.posts_are }) }
+post_passes s p n job = record { goes = λ rows js i. (refl, tt, record { rows_are = i.rows_are; states_are = i.states_are; rests_are = i.rests_are; clients_are = i.clients_are; posts_are = i.posts_are }) }
 
 pub plain_passes : (s : Shedder) (e : PlainEvent) → Judges s (event.Plain e) s (Ok verdict.Pass)
-plain_passes s e = record { goes = λ rows js i. (refl, record { rows_are = i.rows_are; states_are = i.states_are; rests_are = i.rests_are; clients_are = i.clients_are; posts_are = i.posts_are }) }
+plain_passes s e = record { goes = λ rows js i. (refl, tt, record { rows_are = i.rows_are; states_are = i.states_are; rests_are = i.rests_are; clients_are = i.clients_are; posts_are = i.posts_are }) }
 
 -- ---- those of a connection
 
 -- what a verdict leaves that sheds nothing
 abbrev silenced : Option Standing → Verdict
 silenced s = if is_shed s then verdict.Silent else verdict.Pass
+
+silenced_numbered : (b : Bool) (n : ℕ) → IsNumbered (if b then verdict.Silent else verdict.Pass) n
+silenced_numbered true n = tt
+silenced_numbered false n = tt
 
 none_shed : (p : Point) (e : Event) (b : Bool) (js : List Judged) → shed_at p (Became e (if b then verdict.Silent else verdict.Pass) ∷ js) ≡ shed_at p js
 none_shed p e true js = refl
@@ -48,7 +52,8 @@ room_judged s c n v is = record {
   goes = λ rows js i.
       let told : v ≡ silenced (standing_of c js) = is ∙ ap silenced (i.clients_are c) in
       let P : Verdict → Type 0 = λ w. ShedderIs s rows (Became (event.Room c n) w ∷ js) in
-      (told, subst P (sym told) (stands rows js i (is_shed (standing_of c js))));
+      let N : Verdict → Type 0 = λ w. IsNumbered w (shed_at point.Drain js) in
+      (told, subst N (sym told) (silenced_numbered (is_shed (standing_of c js)) (shed_at point.Drain js)), subst P (sym told) (stands rows js i (is_shed (standing_of c js))));
 }
   where
     stands : (rows : List ShedRow) (js : List Judged) → ShedderIs s rows js → (b : Bool) → ShedderIs s rows (Became (event.Room c n) (if b then verdict.Silent else verdict.Pass) ∷ js)
@@ -59,16 +64,10 @@ room_judged s c n v is = record {
 clients_after : (c : ℕ) (old new : PagedMap Standing) (w : Option Standing) (find : ℕ → Option Standing) → Updates c old new w → ((q : ℕ) → value_at q old ≡ find q) → (q : ℕ) → value_at q new ≡ (if c == q then w else find q)
 clients_after c old new w find u are q = u.0 q ∙ ap (λ b. cond b w (value_at q old)) (unsigned_tied c q) ∙ ap (λ o. cond (c == q) w o) (are q)
 
--- the rest of a shedder stays
-pub record OthersStay (old new : Shedder) : Type 0 where
-  pub rows : new.rows ≡ old.rows
-  pub shares : (p : Point) → share_at p new ≡ share_at p old
-  pub posts : new.posts ≡ old.posts
-
 pub gone_judged : (old new : Shedder) (c : ℕ) (v : Verdict) → v ≡ silenced (value_at c old.clients) → Updates c old.clients new.clients None → new.rows ≡ old.rows → ((p : Point) → share_at p new ≡ share_at p old) → new.posts ≡ old.posts
     → Judges old (event.Gone c) new (Ok v)
 gone_judged old new c v is u er es ep = record {
-  goes = λ rows js i. (is ∙ ap silenced (i.clients_are c), record {
+  goes = λ rows js i. (is ∙ ap silenced (i.clients_are c), subst (λ (w : Verdict). IsNumbered w (shed_at point.Drain js)) (sym is) (silenced_numbered (is_shed (value_at c old.clients)) (shed_at point.Drain js)), record {
     rows_are = ap (λ l. l.items) er ∙ i.rows_are;
     states_are = λ p. ap (λ s. s.state) (es p) ∙ i.states_are p;
     rests_are = λ p. ap (λ s. s.rest) (es p) ∙ i.rests_are p;
@@ -82,6 +81,18 @@ gone_judged old new c v is u er es ep = record {
 -- the verdict of an arrival, by whether it is due
 abbrev by_due : Point → ℕ → Bool → Verdict
 by_due p x due = if due then verdict.Shed p x else verdict.Pass
+
+accept_numbered : (x : ℕ) (b : Bool) (n : ℕ) → IsNumbered (by_due point.Accept x b) n
+accept_numbered x true n = tt
+accept_numbered x false n = tt
+
+read_numbered : (x : ℕ) (b : Bool) (n : ℕ) → IsNumbered (by_due point.Read x b) n
+read_numbered x true n = tt
+read_numbered x false n = tt
+
+drain_numbered : (x : ℕ) (b : Bool) (n : ℕ) → n < 2 ^ 63 → IsNumbered (by_due point.Drain x b) n
+drain_numbered x true n few = few
+drain_numbered x false n few = tt
 
 shed_by : (q p : Point) (e : Event) (x : ℕ) (b : Bool) (js : List Judged) → is_same p q ≡ false → shed_at q (Became e (by_due p x b) ∷ js) ≡ shed_at q js
 shed_by q p e x true js other = ap (λ t. if t then shed_at q js + 1 else shed_at q js) other
@@ -122,20 +133,24 @@ module _ (old new : Shedder) (c : ℕ) (v : Verdict) (st : Standing)
     rests point.Read = ap (λ k. k.rest) e_read ∙ i.rests_are point.Read
     rests point.Drain = ap (λ k. k.rest) e_drain ∙ i.rests_are point.Drain
 
-    standing : st ≡ accepted_as v
-    standing = st_is ∙ ap (λ b. if b then standing.Shed else standing.Served) due ∙ accepted_is x (grows s x) ∙ sym (ap accepted_as told)
+    stands_as : st ≡ accepted_as v
+    stands_as = st_is ∙ ap (λ b. if b then standing.Shed else standing.Served) due ∙ accepted_is x (grows s x) ∙ sym (ap accepted_as told)
 
     after : ShedderIs new rows (Became (event.Accept c) v ∷ js)
     after = record {
       rows_are = ap (λ l. l.items) er ∙ i.rows_are;
       states_are = states;
       rests_are = rests;
-      clients_are = λ q. clients_after c old.clients new.clients (Some st) (λ d. standing_of d js) u i.clients_are q ∙ ap (λ k. if c == q then Some k else standing_of q js) standing;
+      clients_are = λ q. clients_after c old.clients new.clients (Some st) (λ d. standing_of d js) u i.clients_are q ∙ ap (λ k. if c == q then Some k else standing_of q js) stands_as;
       posts_are = ep ∙ i.posts_are ∙ sym (ap (λ w. shed_at point.Drain (Became (event.Accept c) w ∷ js)) told ∙ shed_by point.Drain point.Accept (event.Accept c) x (grows s x) js refl);
     }
 
   pub accept_judged : Judges old (event.Accept c) new (Ok v)
-  accept_judged = record { goes = λ rows js i. (told rows js i, after rows js i) }
+  accept_judged = record {
+    goes = λ rows js i.
+        let N : Verdict → Type 0 = λ w. IsNumbered w (shed_at point.Drain js) in
+        (told rows js i, subst N (sym (told rows js i)) (accept_numbered (x rows js i) (grows (s rows js i) (x rows js i)) (shed_at point.Drain js)), after rows js i);
+  }
 
 -- ---- reads
 
@@ -153,7 +168,7 @@ pub read_silent : (s : Shedder) (c : ℕ) (octets : List ℕ) → value_at c s.c
 read_silent s c octets known = record {
   goes = λ rows js i.
       let e = known_as s rows js c (Some standing.Shed) i known in
-      (sym (ap (read_verdict rows js c octets) e), record {
+      (sym (ap (read_verdict rows js c octets) e), tt, record {
         rows_are = i.rows_are;
         states_are = i.states_are;
         rests_are = λ p. i.rests_are p ∙ sym (ap (λ o. read_sum rows js p o % 1000000) e);
@@ -166,7 +181,7 @@ pub read_passes : (s : Shedder) (c : ℕ) (octets : List ℕ) → value_at c s.c
 read_passes s c octets known = record {
   goes = λ rows js i.
       let e = known_as s rows js c None i known in
-      (sym (ap (read_verdict rows js c octets) e), record {
+      (sym (ap (read_verdict rows js c octets) e), tt, record {
         rows_are = i.rows_are;
         states_are = i.states_are;
         rests_are = λ p. i.rests_are p ∙ sym (ap (λ o. read_sum rows js p o % 1000000) e);
@@ -229,7 +244,12 @@ module _ (old new : Shedder) (c : ℕ) (octets : List ℕ) (v : Verdict)
     }
 
   pub read_judged : Judges old (event.Read c octets) new (Ok v)
-  read_judged = record { goes = λ rows js i. (told_read rows js i ∙ sym (ap (read_verdict rows js c octets) (served rows js i)), after_read rows js i) }
+  read_judged = record {
+    goes = λ rows js i.
+        let N : Verdict → Type 0 = λ w. IsNumbered w (shed_at point.Drain js) in
+        (told_read rows js i ∙ sym (ap (read_verdict rows js c octets) (served rows js i)),
+            subst N (sym (told_read rows js i)) (read_numbered (x_read rows js i) (grows (s_read rows js i) (x_read rows js i)) (shed_at point.Drain js)), after_read rows js i);
+  }
 
 -- by whether it is due
 pub no_read_shed : (old new : PagedMap Standing) (c : ℕ) (b : Bool) → b ≡ false → new ≡ old → (q : ℕ) → value_at q new ≡ (if b then (if c == q then Some standing.Shed else value_at q old) else value_at q old)
@@ -245,7 +265,7 @@ drains_shed e x true js = refl
 drains_shed e x false js = refl
 
 module _ (old mid new : Shedder) (version : ℕ) (pressures : List ℕ) (v : Verdict)
-    (most : mid.drain.state ≤ 1000000)
+    (few : old.posts < 2 ^ 63) (most : mid.drain.state ≤ 1000000)
     (mid_states : (p : Point) → (share_at p mid).state ≡ point_state old.rows.items pressures p)
     (mid_rests : (p : Point) → (share_at p mid).rest ≡ (share_at p old).rest)
     (mid_rows : mid.rows ≡ old.rows) (mid_clients : mid.clients ≡ old.clients) (mid_posts : mid.posts ≡ old.posts)
@@ -298,4 +318,9 @@ module _ (old mid new : Shedder) (version : ℕ) (pressures : List ℕ) (v : Ver
     }
 
   pub obey_judged : Judges old (event.Obey version pressures) new (Ok v)
-  obey_judged = record { goes = λ rows js i. (told_drain rows js i, after_drain rows js i) }
+  obey_judged = record {
+    goes = λ rows js i.
+        let N : Verdict → Type 0 = λ w. IsNumbered w (shed_at point.Drain js) in
+        let Few : ℕ → Type 0 = λ n. n < 2 ^ 63 in
+        (told_drain rows js i, subst N (sym (told_drain rows js i)) (drain_numbered (x_drain rows js i) (grows (s_drain rows js i) (x_drain rows js i)) (shed_at point.Drain js) (subst Few i.posts_are few)), after_drain rows js i);
+  }

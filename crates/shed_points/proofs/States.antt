@@ -6,7 +6,7 @@ use Rattle.proxy_config.specs.declared.overload.Form.{Form}
 use Rattle.proxy_config.specs.declared.overload.Point.{Point}
 use Rattle.proxy_config.specs.declared.overload.ShedRow.{ShedRow}
 use Rattle.shed_points.specs.Shedding.{is_same, point_state, row_state, state_after, state_at}
-use Rattle.std.proofs.Common.{Bool, arith, false, refl, true, ℕ, ◌*◌, ◌-◌, ◌/◌, ◌≡◌, ◌≤◌}
+use Rattle.std.proofs.Common.{Bool, ap, arith, false, refl, true, ℕ, ◌*◌, ◌-◌, ◌/◌, ◌∙◌, ◌≡◌, ◌≤◌}
 use Rattle.std.proofs.lemmas.Bool.{leb-false}
 use Rattle.std.proofs.lemmas.Nat.{div_below}
 use Rattle.std.specs.Prelude.{List, [], cond, filter, if◌then◌else◌, map, max, nat_le, slice_index, ◌∷◌}
@@ -25,6 +25,18 @@ row_more r rows ps p = picked ps r (filter (λ (u : ShedRow). is_same u.point p)
 pub no_rows : (ps : List ℕ) (p : Point) → point_state [] ps p ≡ 0
 unfolding greatest_of
 no_rows ps p = refl
+
+-- the greatest so far, with the next row
+pub row_taken : (r : ShedRow) (rest after : List ShedRow) (ps : List ℕ) (p : Point) (most state new whole : ℕ) → rest ≡ r ∷ after → state ≡ state_at r ps p → new ≡ max most state → max most (point_state rest ps p) ≡ whole
+    → max new (point_state after ps p) ≡ whole
+row_taken r rest after ps p most state new whole is same greater before =
+    let k = ap (λ (l : List ShedRow). point_state l ps p) is ∙ row_more r after ps p in
+    omega (arith, k, same, greater, before)
+
+pub no_row_left : (rest : List ShedRow) (ps : List ℕ) (p : Point) (most whole : ℕ) → rest ≡ [] → max most (point_state rest ps p) ≡ whole → most ≡ whole
+no_row_left rest ps p most whole is before =
+    let k = ap (λ (l : List ShedRow). point_state l ps p) is ∙ no_rows ps p in
+    omega (arith, k, before)
 
 -- ---- no state is above the whole
 

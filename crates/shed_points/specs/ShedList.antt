@@ -3,7 +3,7 @@ use Rattle.flow_notes.specs.declared.events.Event.{Event}
 use Rattle.proxy_config.specs.declared.overload.ShedRow.{ShedRow}
 use Rattle.shed_points.specs.Shedding.{Became, Judged, judged, shed_at}
 use Rattle.shed_points.specs.declared.verdict.Verdict.{Verdict}
-use Rattle.std.specs.Prelude.{Bool, List, None, Option, Some, [], false, reverse, true, ℕ, ◌++◌, ◌∷◌}
+use Rattle.std.specs.Prelude.{Bool, List, None, Option, Some, [], false, if◌then◌else◌, reverse, true, ℕ, ◌++◌, ◌∷◌}
 use Rattle.flow_notes.specs.declared.events.Event.TheVariants as event
 use Rattle.flow_notes.specs.declared.events.Job.TheVariants as job
 use Rattle.proxy_config.specs.declared.overload.Point.TheVariants as point

@@ -3,7 +3,7 @@ ghost use Rattle.proxy_config.specs.declared.overload.Point.{Point};
 ghost use Rattle.proxy_config.specs.declared.overload.ShedRow.{ShedRow};
 ghost use Rattle.flow_notes.specs.declared.events.Event.{Event};
 ghost use Rattle.shed_points.specs.Shedding.{judged, shed_at, sum_at};
-ghost use Rattle.std.specs.Prelude.{◌≡◌, ◌/◌, List};
+ghost use Rattle.std.specs.Prelude.{◌≡◌, ◌/◌, ◌<◌, ◌≤◌, List};
 
 use crate::verdict::Verdict;
 use proxy_config::Point;

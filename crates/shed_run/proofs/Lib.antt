@@ -1,3 +1,4 @@
+mod Completing
 mod Following
 mod Lining
 mod Listing

@@ -6,23 +6,27 @@ use Rattle.flow_notes.specs.declared.events.Event.{Event}
 use Rattle.io_ports.specs.declared.octets.NoMemory.{NoMemory}
 use Rattle.proxy_config.specs.declared.config.Config.{Config}
 use Rattle.session_config.specs.ClusterNames.{names_in, resources_in}
-use Rattle.session_lines.specs.WireLines.{Behind, NoLine, ReadsWireLine, SpellsWire, WireEvent, WireHeader, WireItem, WireLinesAre, WireSeen, wire_events, wire_more, wire_read}
+use Rattle.session_lines.specs.WireLines.{Behind, NoLine, ReadsWireLine, SpellsWire, WireEvent, WireHeader, WireItem, WireLinesAre, WireSeen, wire_events, wire_more, wire_read, wire_text}
 use Rattle.session_lines.specs.declared.order.LineRead.{LineRead}
 use Rattle.session_lines.specs.declared.wire_lines.WireLines.{WireLines}
 use Rattle.session_run.specs.Players.{IsPlaying, PlayedAs, PlaysLine}
 use Rattle.session_run.specs.Runs.{Begins}
 use Rattle.session_run.specs.declared.player.Went.{Went}
 use Rattle.shed_points.specs.Shedders.{ShedderIs}
-use Rattle.shed_run.specs.Played.{CanTake, HappensAs, PlayIs, Played, PlaysEvent, RefusesLine, shed_kind}
+use Rattle.shed_run.specs.Played.{CanTake, HappensAs, PlayIs, Played, PlaysEvent, RefusesLine, TakesEvent, shed_kind}
 use Rattle.shed_run.specs.ShedLines.{IsShedSeen, SpellsOwn, is_own}
-use Rattle.shed_run.specs.ShedTapes.{lines_of, text_with}
+use Rattle.shed_run.specs.ShedTapes.{lines_of, notes_with, text_with}
 use Rattle.shed_run.specs.declared.play.ShedPlay.{ShedPlay}
 use Rattle.std.proofs.Common.{ap, append-nil, inl, inr, refl, subst, sym, ◌∙◌}
 use Rattle.std.specs.Prelude.{Bool, Err, List, Ok, Result, [], false, suc, true, ℕ, ◌++◌, ◌∷◌, ◌≡◌, ◌⊎◌}
-use Rattle.tape_laws.specs.History.{History, NoMark}
+use Rattle.tape_laws.specs.History.{History, Marked, NoMark, Noted}
+use Rattle.tape_laws.specs.Text.{note_line, tape_text}
 use Rattle.tape_laws.specs.declared.PlainLimits.{PlainLimits}
 use Rattle.wire_run.proofs.Playing.{lines_more, read_as, text_more}
-use Rattle.wire_run.specs.Played.{PlayRests}
+use Rattle.wire_run.specs.Played as wire
+use Rattle.wire_run.specs.Played.{PlayRests, wire_kind}
+use Rattle.wire_run.specs.Tapes.{WireTape}
+use Rattle.flow_notes.specs.declared.notes.Note.TheVariants as note
 use Rattle.session_lines.specs.declared.order.LineRead.TheVariants as read
 use Rattle.session_run.specs.declared.player.Went.TheVariants as went
 
@@ -163,3 +167,73 @@ module _ (old mid : ShedPlay) (line : List ℕ) (e : Event) (r : ReadsWireLine o
           }
       by config lines count told k (Ok went.Refused) d = absurd d
       by config lines count told k (Err x) d = d
+
+-- by whether it is the shedder's own post
+pub line_taken : (old mid : ShedPlay) (line : List ℕ) (e : Event) (new : ShedPlay) (text_old text_new : List ℕ) (result : Result Went NoMemory) → ReadsWireLine old.play.lines line mid.play.lines (Ok (read.Event e))
+    → ((config : Config) (h : History NoMark) → PlayRests old.play config h → PlayRests mid.play config h) → mid.shedder ≡ old.shedder → mid.events ≡ old.events → TakesEvent mid e text_old new text_new result
+    → PlaysLine shed_kind old line text_old new text_new result
+line_taken old mid line e new text_old text_new result r rests shedder events t = by (is_own e) refl
+  where
+    by : (b : Bool) → is_own e ≡ b → PlaysLine shed_kind old line text_old new text_new result
+    by true own =
+        let k = t.own own in
+        let P : Result Went NoMemory → Type 0 = λ v. PlaysLine shed_kind old line text_old new text_new v in
+        subst P (sym k.0) (own_refused old new line mid.play.lines e text_old text_new r own k.1)
+    by false other = event_line_played old mid line e r other rests shedder events new text_old text_new result (t.other other)
+
+-- ---- before the first line
+
+no_lines : (names : List (List ℕ)) (h : History NoMark) → notes_with names [] h ≡ tape_text names h
+no_lines names [] = refl
+no_lines names (Marked m ∷ past) = no_lines names past
+no_lines names (Noted (note.Turn k e) ∷ past) = ap (λ (v : List ℕ). v ++ note_line names (note.Turn k e)) (append-nil (notes_with names [] past) ∙ no_lines names past)
+no_lines names (Noted (note.Arrive f o) ∷ past) = ap (λ (v : List ℕ). v ++ note_line names (note.Arrive f o)) (no_lines names past)
+no_lines names (Noted (note.Move f p n) ∷ past) = ap (λ (v : List ℕ). v ++ note_line names (note.Move f p n)) (no_lines names past)
+no_lines names (Noted (note.Frame c f n last) ∷ past) = ap (λ (v : List ℕ). v ++ note_line names (note.Frame c f n last)) (no_lines names past)
+no_lines names (Noted (note.Out c n) ∷ past) = ap (λ (v : List ℕ). v ++ note_line names (note.Out c n)) (no_lines names past)
+no_lines names (Noted (note.Pause f b) ∷ past) = ap (λ (v : List ℕ). v ++ note_line names (note.Pause f b)) (no_lines names past)
+no_lines names (Noted (note.Resume f b) ∷ past) = ap (λ (v : List ℕ). v ++ note_line names (note.Resume f b)) (no_lines names past)
+no_lines names (Noted (note.Credit c s n) ∷ past) = ap (λ (v : List ℕ). v ++ note_line names (note.Credit c s n)) (no_lines names past)
+no_lines names (Noted (note.Head c s o) ∷ past) = ap (λ (v : List ℕ). v ++ note_line names (note.Head c s o)) (no_lines names past)
+no_lines names (Noted (note.Answer c o) ∷ past) = ap (λ (v : List ℕ). v ++ note_line names (note.Answer c o)) (no_lines names past)
+no_lines names (Noted (note.Waste c s n) ∷ past) = ap (λ (v : List ℕ). v ++ note_line names (note.Waste c s n)) (no_lines names past)
+no_lines names (Noted (note.Start x c s d) ∷ past) = ap (λ (v : List ℕ). v ++ note_line names (note.Start x c s d)) (no_lines names past)
+no_lines names (Noted (note.Doom x why) ∷ past) = ap (λ (v : List ℕ). v ++ note_line names (note.Doom x why)) (no_lines names past)
+no_lines names (Noted (note.Gone x) ∷ past) = ap (λ (v : List ℕ). v ++ note_line names (note.Gone x)) (no_lines names past)
+no_lines names (Noted (note.Close c code why) ∷ past) = ap (λ (v : List ℕ). v ++ note_line names (note.Close c code why)) (no_lines names past)
+no_lines names (Noted (note.Fire kind id) ∷ past) = ap (λ (v : List ℕ). v ++ note_line names (note.Fire kind id)) (no_lines names past)
+
+no_line_yet : (names : List (List ℕ)) (seen : WireSeen) → [] ≡ wire_text names seen → seen ≡ NoLine
+no_line_yet names NoLine e = refl
+no_line_yet names (Behind es) e = cc
+
+same_config : {E : Type 0} (c d : Config) (r : Result Config E) → r ≡ Ok c → r ≡ Ok d → c ≡ d
+same_config c d r e f = let k : Ok c ≡ Ok d = sym e ∙ f in cc
+
+pub play_begins : (play : ShedPlay) (config : Config) → ((text : List ℕ) → config_of text ≡ Ok config → Begins wire_kind play.play text) → ShedderIs play.shedder config.overload.shed [] → play.events ≡ 0 → (text : List ℕ) → config_of text ≡ Ok config → Begins shed_kind play text
+play_begins play config begins shedder events text configured = record {
+  stands = record {
+    config = k.config;
+    configured = k.configured;
+    named = k.named;
+    seen = NoLine;
+    history = k.history;
+    read = (let P : WireSeen → Type 0 = λ v. WireLinesAre play.play.lines (names_in k.config) (resources_in k.config) v in subst P first k.read);
+    is = record {
+      shedder = (let P : Config → Type 0 = λ v. ShedderIs play.shedder v.overload.shed [] in subst P (same_config config k.config (config_of text) configured k.configured) shedder);
+      events = events;
+      rests = k.rests;
+      may = record { may = tt; none_own = tt };
+      tape = (let P : WireSeen → Type 0 = λ v. WireTape k.config v k.history in subst P first k.tape);
+    };
+    lines_are = refl;
+    count_is = refl;
+    told_is = k.told_is ∙ sym (append-nil (notes_with (names_in k.config) [] k.history) ∙ no_lines (names_in k.config) k.history);
+  };
+}
+  where
+    k : wire.Played play.play text [] 0 []
+    k = (begins text configured).stands
+
+    first : k.seen ≡ NoLine
+    first = no_line_yet (names_in k.config) k.seen k.lines_are

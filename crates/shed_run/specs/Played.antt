@@ -13,7 +13,7 @@ use Rattle.shed_points.specs.Shedding.{judged}
 use Rattle.shed_run.specs.ShedLines.{IsShedSeen, SpellsNoShed, is_own, shed_seen}
 use Rattle.shed_run.specs.ShedTapes.{lines_of, text_with}
 use Rattle.shed_run.specs.declared.play.ShedPlay.{ShedPlay}
-use Rattle.std.specs.Prelude.{Bool, Err, List, Ok, Result, false, length, ℕ, ◌++◌, ◌∷◌, ◌≡◌}
+use Rattle.std.specs.Prelude.{Bool, Err, List, Ok, Result, false, length, true, ℕ, ◌++◌, ◌∷◌, ◌≡◌}
 use Rattle.tape_laws.specs.History.{History, NoMark}
 use Rattle.wire_run.specs.Played as wire
 use Rattle.wire_run.specs.Played.{PlayRests}
@@ -83,3 +83,8 @@ pub record CanTake (play : ShedPlay) (e : Event) : Type 0 where
   pub is : PlayIs play config seen history
   pub more : wire_events after ≡ e ∷ wire_events seen
   pub may : IsShedSeen (names_in config) (resources_in config) after
+
+-- an event that came next, where the shedder's own posts are refused
+pub record TakesEvent (old : ShedPlay) (e : Event) (text_old : List ℕ) (new : ShedPlay) (text_new : List ℕ) (result : Result Went NoMemory) : Type 0 where
+  pub own : is_own e ≡ true → (result ≡ Ok went.Refused) × (text_new ≡ text_old)
+  pub other : is_own e ≡ false → PlaysEvent old e text_old new text_new result

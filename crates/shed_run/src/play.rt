@@ -28,8 +28,9 @@ impl ShedPlay {
     ghost use Rattle.session_run.specs.Runs.{Begins};
     ghost use Rattle.shed_points.specs.ShedList.{as_list, kept};
     ghost use Rattle.shed_run.specs.Parts.{MayPlay, Plays, PlaysAs};
-    ghost use Rattle.shed_run.specs.Played.{CanTake, PlaysEvent, shed_kind};
-    ghost use Rattle.std.specs.Prelude.{◌≡◌, ◌++◌, ◌∷◌, [], IfOk, List, Ok, OnErr, OnOk, ℕ};
+    ghost use Rattle.shed_run.specs.Played.{CanTake, PlaysEvent, TakesEvent, shed_kind};
+    ghost use Rattle.shed_run.specs.ShedLines.{is_own};
+    ghost use Rattle.std.specs.Prelude.{◌≡◌, ◌++◌, ◌∷◌, [], IfOk, List, Ok, OnErr, OnOk, false, ℕ};
 
     /// Before the first line of a session under this configuration. Refused only for lack of memory.
     pub fn new(alloc: Global, config: Config) -> Result<Self, NoMemory>
@@ -56,6 +57,17 @@ impl ShedPlay {
         ensures { result.now ≡ self.now.play.lines }
     {
         self.play.lines()
+    }
+
+    // A post of the shedder's own poster is refused.
+    fn take(&mut self, event: &Event, text: &mut Octets) -> Result<Went, NoMemory>
+        requires { is_own event.now ≡ false → CanTake self.old event.now }
+        ensures { TakesEvent self.old event.now text.old self.new text.new result }
+    {
+        if is_own(event) {
+            return Ok(Went::Refused);
+        }
+        self.event(event, text)
     }
 
     // Judges an event, plays what it comes to, and appends the notes with the line of what was shed, or leaves the text as it was.
@@ -167,8 +179,7 @@ impl Player for ShedPlay {
     fn line(&mut self, line: &[u8], text: &mut Octets) -> Result<Went, NoMemory> {
         match self.play.read(line)? {
             LineRead::Header => Ok(Went::On),
-            LineRead::Event(event) if is_own(&event) => Ok(Went::Refused),
-            LineRead::Event(event) => self.event(&event, text),
+            LineRead::Event(event) => self.take(&event, text),
             LineRead::Limits(_) | LineRead::Refused => Ok(Went::Refused),
         }
     }
