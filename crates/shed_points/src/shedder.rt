@@ -21,7 +21,7 @@ use worker_core::{Core, CoreFault};
 const POSTS: u64 = 1 << 63;
 
 /// What a client's connection is that came and isn't gone.
-#[derive(Clone, Copy, PartialEq, Eq)]
+#[derive(Clone, Copy)]
 pub enum Standing {
     /// It wasn't shed.
     Served,

@@ -1,6 +1,5 @@
 // What becomes of an event.
 ghost use Rattle.std.specs.Prelude.{◌≡◌};
-ghost use Rattle.std.specs.Option.{option_copied};
 ghost use Rattle.shed_points.specs.ShedList as list;
 
 use flow_notes::{Event, Job};
@@ -10,7 +9,7 @@ use proxy_config::Point;
 pub const SHED_POSTER: u32 = u32::MAX;
 
 /// What becomes of an event.
-#[derive(Clone, Copy, PartialEq, Eq)]
+#[derive(Clone, Copy)]
 pub enum Verdict {
     /// It is dispatched.
     Pass,

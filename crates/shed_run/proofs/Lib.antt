@@ -5,4 +5,5 @@ mod Listing
 mod Parts
 mod Playing
 mod Retelling
+mod Spelling
 mod Texts
