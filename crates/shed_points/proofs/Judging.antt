@@ -67,13 +67,17 @@ clients_after c old new w find u are q = u.0 q ∙ ap (λ b. cond b w (value_at 
 pub gone_judged : (old new : Shedder) (c : ℕ) (v : Verdict) → v ≡ silenced (value_at c old.clients) → Updates c old.clients new.clients None → new.rows ≡ old.rows → ((p : Point) → share_at p new ≡ share_at p old) → new.posts ≡ old.posts
     → Judges old (event.Gone c) new (Ok v)
 gone_judged old new c v is u er es ep = record {
-  goes = λ rows js i. (is ∙ ap silenced (i.clients_are c), subst (λ (w : Verdict). IsNumbered w (shed_at point.Drain js)) (sym is) (silenced_numbered (is_shed (value_at c old.clients)) (shed_at point.Drain js)), record {
-    rows_are = ap (λ l. l.items) er ∙ i.rows_are;
-    states_are = λ p. ap (λ s. s.state) (es p) ∙ i.states_are p;
-    rests_are = λ p. ap (λ s. s.rest) (es p) ∙ i.rests_are p;
-    clients_are = clients_after c old.clients new.clients None (λ q. standing_of q js) u i.clients_are;
-    posts_are = ep ∙ i.posts_are ∙ sym (ap (λ w. shed_at point.Drain (Became (event.Gone c) w ∷ js)) is ∙ none_shed point.Drain (event.Gone c) (is_shed (value_at c old.clients)) js);
-  });
+  goes = λ rows js i. (
+    is ∙ ap silenced (i.clients_are c),
+    subst (λ (w : Verdict). IsNumbered w (shed_at point.Drain js)) (sym is) (silenced_numbered (is_shed (value_at c old.clients)) (shed_at point.Drain js)),
+    record {
+      rows_are = ap (λ l. l.items) er ∙ i.rows_are;
+      states_are = λ p. ap (λ s. s.state) (es p) ∙ i.states_are p;
+      rests_are = λ p. ap (λ s. s.rest) (es p) ∙ i.rests_are p;
+      clients_are = clients_after c old.clients new.clients None (λ q. standing_of q js) u i.clients_are;
+      posts_are = ep ∙ i.posts_are ∙ sym (ap (λ w. shed_at point.Drain (Became (event.Gone c) w ∷ js)) is ∙ none_shed point.Drain (event.Gone c) (is_shed (value_at c old.clients)) js);
+    },
+  );
 }
 
 -- ---- those that arrive
@@ -109,7 +113,6 @@ module _ (old new : Shedder) (c : ℕ) (v : Verdict) (st : Standing)
     (u : Updates c old.clients new.clients (Some st))
     (rest : new.accept.rest ≡ (old.accept.rest + old.accept.state) % 1000000) (state : new.accept.state ≡ old.accept.state)
     (er : new.rows ≡ old.rows) (e_read : new.read ≡ old.read) (e_drain : new.drain ≡ old.drain) (ep : new.posts ≡ old.posts) where
-
   module _ (rows : List ShedRow) (js : List Judged) (i : ShedderIs old rows js) where
     abbrev x : ℕ
     x = state_after rows point.Accept (events_of js)
@@ -167,27 +170,33 @@ known_as s rows js c o i known = sym (i.clients_are c) ∙ known
 pub read_silent : (s : Shedder) (c : ℕ) (octets : List ℕ) → value_at c s.clients ≡ Some standing.Shed → Judges s (event.Read c octets) s (Ok verdict.Silent)
 read_silent s c octets known = record {
   goes = λ rows js i.
-      let e = known_as s rows js c (Some standing.Shed) i known in
-      (sym (ap (read_verdict rows js c octets) e), tt, record {
-        rows_are = i.rows_are;
-        states_are = i.states_are;
-        rests_are = λ p. i.rests_are p ∙ sym (ap (λ o. read_sum rows js p o % 1000000) e);
-        clients_are = i.clients_are;
-        posts_are = i.posts_are;
-      });
+      let e = known_as s rows js c (Some standing.Shed) i known in (
+        sym (ap (read_verdict rows js c octets) e),
+        tt,
+        record {
+          rows_are = i.rows_are;
+          states_are = i.states_are;
+          rests_are = λ p. i.rests_are p ∙ sym (ap (λ o. read_sum rows js p o % 1000000) e);
+          clients_are = i.clients_are;
+          posts_are = i.posts_are;
+        },
+      );
 }
 
 pub read_passes : (s : Shedder) (c : ℕ) (octets : List ℕ) → value_at c s.clients ≡ None → Judges s (event.Read c octets) s (Ok verdict.Pass)
 read_passes s c octets known = record {
   goes = λ rows js i.
-      let e = known_as s rows js c None i known in
-      (sym (ap (read_verdict rows js c octets) e), tt, record {
-        rows_are = i.rows_are;
-        states_are = i.states_are;
-        rests_are = λ p. i.rests_are p ∙ sym (ap (λ o. read_sum rows js p o % 1000000) e);
-        clients_are = i.clients_are;
-        posts_are = i.posts_are;
-      });
+      let e = known_as s rows js c None i known in (
+        sym (ap (read_verdict rows js c octets) e),
+        tt,
+        record {
+          rows_are = i.rows_are;
+          states_are = i.states_are;
+          rests_are = λ p. i.rests_are p ∙ sym (ap (λ o. read_sum rows js p o % 1000000) e);
+          clients_are = i.clients_are;
+          posts_are = i.posts_are;
+        },
+      );
 }
 
 read_as : (q c : ℕ) (octets : List ℕ) (x : ℕ) (b : Bool) (js : List Judged) → standing_of q (Became (event.Read c octets) (by_due point.Read x b) ∷ js) ≡ (if b then (if c == q then Some standing.Shed else standing_of q js) else standing_of q js)
@@ -201,7 +210,6 @@ module _ (old new : Shedder) (c : ℕ) (octets : List ℕ) (v : Verdict)
     (clients : (q : ℕ) → value_at q new.clients ≡ (if nat_le 1000000 (old.read.rest + old.read.state) then (if c == q then Some standing.Shed else value_at q old.clients) else value_at q old.clients))
     (rest : new.read.rest ≡ (old.read.rest + old.read.state) % 1000000) (state : new.read.state ≡ old.read.state)
     (er : new.rows ≡ old.rows) (e_accept : new.accept ≡ old.accept) (e_drain : new.drain ≡ old.drain) (ep : new.posts ≡ old.posts) where
-
   module _ (rows : List ShedRow) (js : List Judged) (i : ShedderIs old rows js) where
     abbrev x_read : ℕ
     x_read = state_after rows point.Read (events_of js)
@@ -246,9 +254,11 @@ module _ (old new : Shedder) (c : ℕ) (octets : List ℕ) (v : Verdict)
   pub read_judged : Judges old (event.Read c octets) new (Ok v)
   read_judged = record {
     goes = λ rows js i.
-        let N : Verdict → Type 0 = λ w. IsNumbered w (shed_at point.Drain js) in
-        (told_read rows js i ∙ sym (ap (read_verdict rows js c octets) (served rows js i)),
-            subst N (sym (told_read rows js i)) (read_numbered (x_read rows js i) (grows (s_read rows js i) (x_read rows js i)) (shed_at point.Drain js)), after_read rows js i);
+        let N : Verdict → Type 0 = λ w. IsNumbered w (shed_at point.Drain js) in (
+          told_read rows js i ∙ sym (ap (read_verdict rows js c octets) (served rows js i)),
+          subst N (sym (told_read rows js i)) (read_numbered (x_read rows js i) (grows (s_read rows js i) (x_read rows js i)) (shed_at point.Drain js)),
+          after_read rows js i,
+        );
   }
 
 -- by whether it is due
@@ -273,7 +283,6 @@ module _ (old mid new : Shedder) (version : ℕ) (pressures : List ℕ) (v : Ver
     (rest : new.drain.rest ≡ (mid.drain.rest + mid.drain.state) % 1000000) (state : new.drain.state ≡ mid.drain.state)
     (er : new.rows ≡ mid.rows) (e_accept : new.accept ≡ mid.accept) (e_read : new.read ≡ mid.read) (ec : new.clients ≡ mid.clients)
     (posts : new.posts ≡ (if nat_le 1000000 (mid.drain.rest + mid.drain.state) then mid.posts + 1 else mid.posts)) where
-
   module _ (rows : List ShedRow) (js : List Judged) (i : ShedderIs old rows js) where
     abbrev x_drain : ℕ
     x_drain = point_state rows pressures point.Drain

@@ -233,7 +233,9 @@ impl Shedder {
         ensures others { (self.new.rows ≡ self.old.rows) × (self.new.clients ≡ self.old.clients) × (self.new.posts ≡ self.old.posts) × (self.new.failed ≡ self.old.failed) }
     {
         let rows = self.rows.as_slice();
-        self.accept = self.accept.under(point_state(rows, pressures, Point::Accept));
+        self.accept = self
+            .accept
+            .under(point_state(rows, pressures, Point::Accept));
         self.read = self.read.under(point_state(rows, pressures, Point::Read));
         self.drain = self.drain.under(point_state(rows, pressures, Point::Drain));
     }

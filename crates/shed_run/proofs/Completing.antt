@@ -34,7 +34,6 @@ unlike b is isnt = let k : true ≡ false = sym is ∙ isnt in cc
 
 module _ (names : List (List ℕ)) (resources : ℕ) (are : AreNames names) (text read ys rest : List ℕ) (es : List Event) (all : MayFollowWireAll names resources es) (none_own : AllByRecursion (λ e. is_own e ≡ false) es)
     (text_is : text ≡ wire_text names (Behind es)) (split : text ≡ read ++ ys) where
-
   no_own : (seen : WireSeen) → IsShedSeen names resources seen → read ≡ wire_text names seen ++ rest → (n : ℕ) → HasLine (wire_text names seen) rest n → SpellsOwn names resources seen (take n rest) → ⊥
   no_own NoLine may reads n has own = own.spells.may
   no_own (Behind ds) may reads n has own =

@@ -57,14 +57,14 @@ turned p q f = grind (arith, nat_tests)
 unlike : (x c : ℕ) → nat_lt x c ≡ true → x ≡ c → ⊥
 unlike x c t e = grind (arith, nat_tests)
 
+at_first : (b : Bool) (x c d : ℕ) (later : Bool) → (x == d) ≡ b → c ≡ d → nat_lt x c ≡ true → (b || later) ≡ true → (later ≡ true → ⊥) → ⊥
+at_first true x c d later t e less there none = unlike x c less (same x d t ∙ sym e)
+at_first false x c d later t e less there none = none there
+
 -- a number above all of them is none of them
 fresh : (xs : List ℕ) (c d : ℕ) → c ≡ d → list_all (λ x. nat_lt x c) xs ≡ true → has xs d ≡ true → ⊥
 fresh [] c d e all there = cc
-fresh (x ∷ xs) c d e all there = by (x == d) refl there
-  where
-    by : (b : Bool) → (x == d) ≡ b → (b || has xs d) ≡ true → ⊥
-    by true t k = unlike x c (left (nat_lt x c) (list_all (λ y. nat_lt y c) xs) all) (same x d t ∙ sym e)
-    by false t k = fresh xs c d e (right (nat_lt x c) (list_all (λ y. nat_lt y c) xs) all) k
+fresh (x ∷ xs) c d e all there = at_first (x == d) x c d (has xs d) refl e (left (nat_lt x c) (list_all (λ y. nat_lt y c) xs) all) there (λ k. fresh xs c d e (right (nat_lt x c) (list_all (λ y. nat_lt y c) xs) all) k)
 
 -- ---- what the shed list has in common with the events
 
@@ -85,16 +85,16 @@ module _ (es : List Event) (js : List Judged) (k : Kin es js) where
   is_first : (c d : ℕ) → (c == d) ≡ true → list_all (λ x. nat_lt x c) (named es) ≡ true → has (gone (dispatched js)) d ≡ false
   is_first c d t all = no_true (has (gone (dispatched js)) d) (λ there. fresh (named es) c d (same c d t) all (k.gone_in d there))
 
-  come_there : (c d : ℕ) (b : Bool) (s : Option Standing) → (c == d) ≡ b → list_all (λ x. nat_lt x c) (named es) ≡ true
+  come_there : (c d : ℕ) (b : Bool) → (c == d) ≡ b → list_all (λ x. nat_lt x c) (named es) ≡ true
       → ((b || has (named es) d) && not (has (gone es) d)) ≡ true → (b ≡ false → is_shed (standing_of d js) ≡ false) → ((b || has (named (dispatched js)) d) && not (has (gone (dispatched js)) d)) ≡ true
-  come_there c d true s t all e f = ap not (is_first c d t all)
-  come_there c d false s t all e f = k.there d e (f refl)
+  come_there c d true t all e f = ap not (is_first c d t all)
+  come_there c d false t all e f = k.there d e (f refl)
 
   join_kin : (c n : ℕ) → list_all (λ x. nat_lt x c) (named es) ≡ true → Kin (event.Join c n ∷ es) (Became (event.Join c n) verdict.Pass ∷ js)
   join_kin c n all = record {
     named_in = λ P e. under (P c) (list_all P (named es)) (list_all P (named (dispatched js))) e (k.named_in P);
     gone_in = λ d e. behind (c == d) (has (named es) d) (k.gone_in d e);
-    there = λ d e f. come_there c d (c == d) None refl all e (λ _. f);
+    there = λ d e f. come_there c d (c == d) refl all e (λ _. f);
     posts = k.posts;
     own = k.own;
     obeys = k.obeys;
@@ -108,7 +108,7 @@ module _ (es : List Event) (js : List Judged) (k : Kin es js) where
   accept_kin c all = record {
     named_in = λ P e. under (P c) (list_all P (named es)) (list_all P (named (dispatched js))) e (k.named_in P);
     gone_in = λ d e. behind (c == d) (has (named es) d) (k.gone_in d e);
-    there = λ d e f. come_there c d (c == d) None refl all e (served c d (c == d) f);
+    there = λ d e f. come_there c d (c == d) refl all e (served c d (c == d) f);
     posts = k.posts;
     own = k.own;
     obeys = k.obeys;

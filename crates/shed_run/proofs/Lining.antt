@@ -95,11 +95,14 @@ spelled names resources seen line (WireEvent f) e s q = let P : Event → Type 0
 
 pub own_refused : (old new : ShedPlay) (line : List ℕ) (lines : WireLines) (e : Event) (text_old text_new : List ℕ) → ReadsWireLine old.play.lines line lines (Ok (read.Event e)) → is_own e ≡ true → text_new ≡ text_old → PlaysLine shed_kind old line text_old new text_new (Ok went.Refused)
 own_refused old new line lines e text_old text_new r own same = record {
-  goes = λ config ls count told k. (record {
-    goes = λ names resources seen w.
-        let a = r.goes names resources seen w in
-        inr (record { own = e; spells = spelled names resources seen line a.item e a.spells a.read; is = own });
-  }, same);
+  goes = λ config ls count told k. (
+    record {
+      goes = λ names resources seen w.
+          let a = r.goes names resources seen w in
+          inr (record { own = e; spells = spelled names resources seen line a.item e a.spells a.read; is = own });
+    },
+    same,
+  );
 }
 
 -- ---- an event
@@ -118,7 +121,6 @@ next_event config (Behind es) line (WireEvent f) e s q own =
 
 module _ (old mid : ShedPlay) (line : List ℕ) (e : Event) (r : ReadsWireLine old.play.lines line mid.play.lines (Ok (read.Event e))) (own : is_own e ≡ false)
     (rests : (config : Config) (h : History NoMark) → PlayRests old.play config h → PlayRests mid.play config h) (shedder : mid.shedder ≡ old.shedder) (events : mid.events ≡ old.events) where
-
   pub can_take : IsPlaying shed_kind old → CanTake mid e
   can_take playing =
       let k = playing.stands in

@@ -32,7 +32,6 @@ use Rattle.shed_points.specs.declared.verdict.Verdict.TheVariants as verdict
 
 module _ (old new : WirePlay) (e : Event) (config : Config) (fs : List Event) (lines : List Placed) (h : History NoMark) (text_old text_new : List ℕ) (s : StandsAt old config fs lines h)
     (may : MayFollowWireAll (names_in config) (resources_in config) (e ∷ fs)) (d : Dispatched old e new config h text_old text_new) where
-
   turned : turns d.history ≡ turns h + 1
   turned = ap (λ (v : History NoMark). turns v) d.behind ∙ (dispatch_adds (turns h + 1) e d.notes h d.tells).turned
 
@@ -128,10 +127,8 @@ line_put names lines h e (verdict.Shed p x) number behind is =
 
 module _ (old mid new : WirePlay) (e : Event) (v : Verdict) (number : ℕ) (before behind : List Event) (text_old text_mid text_line text_new : List ℕ)
     (p : Plays old before text_old mid text_mid) (line : text_line ≡ text_mid ++ line_told e v number) (q : Plays mid behind text_line new text_new) where
-
   module _ (config : Config) (fs : List Event) (lines : List Placed) (h : History NoMark) (named : old.lines.names ≡ names_in config) (s : StandsAt old config fs lines h)
       (may : MayFollowWireAll (names_in config) (resources_in config) (reverse (before ++ behind) ++ fs)) where
-
     split : MayFollowWireAll (names_in config) (resources_in config) (reverse behind ++ (reverse before ++ fs))
     split = split_may (names_in config) (resources_in config) before behind fs may
 

@@ -70,7 +70,6 @@ lines_more_with e (verdict.Shed p x) js = refl
 module _ (old : ShedPlay) (e : Event) (v : Verdict) (after_judge : Shedder) (config : Config) (seen after : WireSeen) (h : History NoMark)
     (more : wire_events after ≡ e ∷ wire_events seen) (may : IsShedSeen (names_in config) (resources_in config) after) (is : PlayIs old config seen h)
     (judges : Judges old.shedder e after_judge (Ok v)) where
-
   abbrev rows : List ShedRow
   rows = config.overload.shed
 
@@ -137,7 +136,6 @@ module _ (old : ShedPlay) (e : Event) (v : Verdict) (after_judge : Shedder) (con
   module _ (new : ShedPlay) (number : ℕ) (text_old text_new : List ℕ) (named : old.play.lines.names ≡ names_in config)
       (number_is : number ≡ old.events + 1) (events : new.events ≡ number) (shedder : new.shedder ≡ after_judge)
       (played : PlaysAs old.play e v number (kept e v) (as_list (instead e v posts)) text_old new.play text_new) where
-
     lands : Lands config (shed_lines js) h old.play new.play (dispatched (Became e v ∷ js)) (with_line e v number (turns h + length (kept e v)) (shed_lines js)) text_old text_new
     lands = played.goes config (dispatched js) (shed_lines js) h named stands whole_may
 

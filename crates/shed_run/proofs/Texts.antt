@@ -69,10 +69,10 @@ module _ (names : List (List ℕ)) where
   dispatch_text lines k e ns h t none =
       let P : List Note → Type 0 = λ v. text_with names lines (onto v h) ≡ text_with names lines h ++ notes_text names v in
       subst P (sym t.is) (
-        ap (λ (v : List ℕ). notes_with names lines (onto (note.Turn k e ∷ t.added) h) ++ v) (ap (λ m. lines_at m lines) turned ∙ none)
-        ∙ append-nil (notes_with names lines (onto (note.Turn k e ∷ t.added) h))
-        ∙ steps_text lines t.added (Noted (note.Turn k e) ∷ h) t.steps
-        ∙ append_assoc (text_with names lines h) (note_line names (note.Turn k e)) (notes_text names t.added))
+      ap (λ (v : List ℕ). notes_with names lines (onto (note.Turn k e ∷ t.added) h) ++ v) (ap (λ m. lines_at m lines) turned ∙ none)
+      ∙ append-nil (notes_with names lines (onto (note.Turn k e ∷ t.added) h))
+      ∙ steps_text lines t.added (Noted (note.Turn k e) ∷ h) t.steps
+      ∙ append_assoc (text_with names lines h) (note_line names (note.Turn k e)) (notes_text names t.added))
     where
       turned : turns (onto (note.Turn k e ∷ t.added) h) ≡ turns h + 1
       turned = ap (λ (v : List Note). turns (onto v h)) (sym t.is) ∙ (dispatch_adds k e ns h t).turned

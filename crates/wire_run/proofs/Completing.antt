@@ -197,17 +197,18 @@ module _ (names : List (List ℕ)) (resources : ℕ) (are : AreNames names) wher
   no_longer [] most = refl
   no_longer (d ∷ ds) most = absurd (omega (arith, most))
 
+  one_longer : (ds es : List Event) (f : Event) (x y : List ℕ) → MayFollowWireAll names resources ds → MayFollowWireAll names resources (f ∷ es) → length ds ≤ length (f ∷ es) → wire_event_lines names ds ++ x ≡ wire_event_lines names (f ∷ es) ++ y
+      → (length ds < length (f ∷ es) → (more : List Event) × (es ≡ more ++ ds)) → (length ds < length (f ∷ es)) ⊎ ((length ds ≡ length (f ∷ es)) ⊎ (length (f ∷ es) < length ds)) → (more : List Event) × (f ∷ es ≡ more ++ ds)
+  one_longer ds es f x y a b most e earlier (inl less) = let k = earlier less in (f ∷ k.0, ap (λ (v : List Event). f ∷ v) k.1)
+  one_longer ds es f x y a b most e earlier (inr (inl same)) = ([], sym (same_events names resources are ds (f ∷ es) x y same a b e).0)
+  one_longer ds es f x y a b most e earlier (inr (inr longer)) = absurd (omega (arith, longer, most))
+
   in_front : (ds es : List Event) (x y : List ℕ) → MayFollowWireAll names resources ds → MayFollowWireAll names resources es → length ds ≤ length es → wire_event_lines names ds ++ x ≡ wire_event_lines names es ++ y
       → (more : List Event) × (es ≡ more ++ ds)
   in_front ds [] x y a b most e = ([], sym (no_longer ds most))
-  in_front ds (f ∷ es) x y a b most e = by (compare names resources are (length ds) (length (f ∷ es)))
-    where
-      by : (length ds < length (f ∷ es)) ⊎ ((length ds ≡ length (f ∷ es)) ⊎ (length (f ∷ es) < length ds)) → (more : List Event) × (f ∷ es ≡ more ++ ds)
-      by (inl less) =
-          let k = in_front ds es x (event_spelling names f ++ 10 ∷ y) a b.1 (omega (arith, less)) (e ∙ one_more names resources are (wire_event_lines names es) (event_spelling names f) y) in
-          (f ∷ k.0, ap (λ (v : List Event). f ∷ v) k.1)
-      by (inr (inl same)) = ([], sym (same_events names resources are ds (f ∷ es) x y same a b e).0)
-      by (inr (inr more)) = absurd (omega (arith, more, most))
+  in_front ds (f ∷ es) x y a b most e =
+      one_longer ds es f x y a b most e (λ less. in_front ds es x (event_spelling names f ++ 10 ∷ y) a b.1 (omega (arith, less)) (e ∙ one_more names resources are (wire_event_lines names es) (event_spelling names f) y))
+      (compare names resources are (length ds) (length (f ∷ es)))
 
   pub events_in_front : (ds es : List Event) (x : List ℕ) → MayFollowWireAll names resources ds → MayFollowWireAll names resources es → wire_event_lines names ds ++ x ≡ wire_event_lines names es → (more : List Event) × (es ≡ more ++ ds)
   events_in_front ds es x a b e = by (compare names resources are (length ds) (length es))
