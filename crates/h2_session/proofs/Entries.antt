@@ -1,9 +1,8 @@
 -- The entries of a SETTINGS frame, one after another.
-use Rattle.std.proofs.Common.{◌≡◌, ℕ, ◌<◌, ◌≤◌, ◌||◌, Bool, true, false, List, [], ◌∷◌, length, get_or, take, drop, ap, sym, ◌∙◌, refl, arith}
+use Rattle.std.proofs.Common.{◌≡◌, ℕ, ◌<◌, ◌≤◌, List, [], ◌∷◌, length, get_or, take, drop, ap, ◌∙◌, refl, arith}
 use Rattle.std.specs.Int.{from_be_bytes, w16, w32}
-use Rattle.std.specs.Prelude.{nat_lt, suc, ◌&&◌, ◌/◌, ◌==◌}
-use Rattle.h2_session.specs.Errors.{names_outside, settings_of}
-use Rattle.h2_session.specs.declared.act.Setting.{Setting}
+use Rattle.std.specs.Prelude.{suc, ◌/◌}
+use Rattle.h2_session.specs.Errors.{settings_of}
 
 pub first_of_settings : (l front rest : List ℕ) (i v : ℕ) → 6 ≤ length l → front ≡ take 6 l → rest ≡ drop 6 l
     → i ≡ from_be_bytes w16 (get_or front 0 0 ∷ get_or front 1 0 ∷ [])
@@ -16,16 +15,6 @@ first_of_settings (a ∷ b ∷ []) front rest i v long p q x y = absurd (omega a
 first_of_settings (a ∷ b ∷ c ∷ []) front rest i v long p q x y = absurd (omega arith)
 first_of_settings (a ∷ b ∷ c ∷ d ∷ []) front rest i v long p q x y = absurd (omega arith)
 first_of_settings (a ∷ b ∷ c ∷ d ∷ e ∷ []) front rest i v long p q x y = absurd (omega arith)
-
--- one more entry that is looked at
-pub one_looked_at : (id low high : ℕ) (found r : Bool) (s : Setting) (front back : List Setting) (all : Bool) → r ≡ ((s.id == id) && (nat_lt s.value low || nat_lt high s.value))
-    → (found || names_outside id low high front) ≡ all → front ≡ s ∷ back → ((found || r) || names_outside id low high back) ≡ all
-one_looked_at id low high found r s front back all at so_far is =
-    apart found r (names_outside id low high back) ∙ ap (λ b. found || (b || names_outside id low high back)) at ∙ ap (λ l. found || names_outside id low high l) (sym is) ∙ so_far
-  where
-    apart : (a b c : Bool) → ((a || b) || c) ≡ (a || (b || c))
-    apart true b c = refl
-    apart false b c = refl
 
 -- fewer octets than an entry has are none
 pub no_settings : (l : List ℕ) → length l < 6 → settings_of l ≡ []
@@ -49,10 +38,3 @@ count_settings (a ∷ b ∷ c ∷ d ∷ e ∷ f ∷ l) = ap suc (count_settings 
   where
     one_more : (n : ℕ) → suc (n / 6) ≡ suc (suc (suc (suc (suc (suc n))))) / 6
     one_more n = omega arith
-
-pub none_left : (id low high : ℕ) (found : Bool) (l : List ℕ) (all : Bool) → (found || names_outside id low high (settings_of l)) ≡ all → length l < 6 → found ≡ all
-none_left id low high found l all so_far short = or_none found ∙ ap (λ k. found || names_outside id low high k) (sym (no_settings l short)) ∙ so_far
-  where
-    or_none : (a : Bool) → a ≡ (a || false)
-    or_none true = refl
-    or_none false = refl

@@ -1,5 +1,5 @@
 -- What a session gives and stands for after each type of frame that ends no header block.
-use Rattle.std.proofs.Common.{◌≡◌, ℕ, ◌+◌, ◌-◌, ◌<◌, Bool, true, false, cond, List, ◌∷◌, min, Option, None, refl, sym, ap, subst, ◌∙◌, arith}
+use Rattle.std.proofs.Common.{◌≡◌, ℕ, ◌+◌, ◌<◌, Bool, true, false, cond, List, ◌∷◌, min, Option, None, refl, sym, ap, subst, ◌∙◌, arith}
 use Rattle.std.specs.Prelude.{IfSome, nat_le, ◌&&◌, ◌||◌}
 use Rattle.std.proofs.lemmas.Bool.{leb-false}
 use Rattle.h2_frames.specs.Frame.{DataFrame, Frame, Reset}
@@ -11,7 +11,6 @@ use Rattle.h2_session.specs.Streams.{head_stands, is_among, is_new, opened, peer
 use Rattle.h2_session.specs.Summary.{StandsFor, Summary, Takes}
 use Rattle.h2_session.specs.Table.{Puts, after_data, stream_at}
 use Rattle.h2_session.specs.declared.act.Act.{Act}
-use Rattle.h2_session.specs.declared.act.Act.TheVariants as act
 use Rattle.h2_session.specs.declared.block.HeaderBlock.{HeaderBlock}
 use Rattle.h2_session.proofs.BlockEnds.{same_number}
 use Rattle.h2_session.proofs.Came.{Leaves, SaysOf, came_on}

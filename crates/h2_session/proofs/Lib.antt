@@ -2,13 +2,14 @@ pub mod Accepts
 pub mod BlockEnds
 pub mod Calls
 pub mod Came
+pub mod Codes
 pub mod Counts
 pub mod Entries
 pub mod Errors
+pub mod Folding
 pub mod Frames
 pub mod Heads
 pub mod Opening
 pub mod Sizes
 pub mod Standing
 pub mod States
-pub mod Within

@@ -71,7 +71,8 @@ stream_of (act.GoAway last code) = last
 stream_of (act.StreamError s code block) = s
 stream_of given = 0
 
--- what is handed in beside a DATA frame are its octets; beside another frame nothing is asked of it
+-- what is handed in beside a DATA frame are its octets, and beside SETTINGS its entries; beside another frame nothing is asked of it
 abbrev pub IsContentOf : Frame → List ℕ → Type 0
 IsContentOf (DataFrame s last padded octets) content = content ≡ octets
+IsContentOf (Settings ack entries) content = content ≡ entries
 IsContentOf frame content = Unit {0}

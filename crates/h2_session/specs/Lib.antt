@@ -8,3 +8,4 @@ pub mod Preface
 pub mod Streams
 pub mod Summary
 pub mod Table
+pub mod Values

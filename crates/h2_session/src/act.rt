@@ -2,7 +2,9 @@
 ghost use Rattle.std.specs.Prelude.{◌≡◌, ◌==◌, length};
 ghost use Rattle.h2_session.specs.Errors.{settings_of};
 ghost use Rattle.h2_session.specs.Iter.{settings_left};
+ghost use Rattle.h2_session.specs.Values.{named_in};
 
+use crate::named::{Named, read_named};
 use crate::settings::{SETTING_SIZE, SettingIter};
 use io_ports::Octets;
 use std::marker::Model;
@@ -14,20 +16,25 @@ pub struct Setting {
     pub value: u32,
 }
 
-/// The entries of a SETTINGS frame, in its order. They are kept as the octets that spell them.
-#[derive(Debug, Drop)]
+/// The entries of a SETTINGS frame, in its order. They are kept as the octets that spell them, beside what they come to.
+#[derive(Drop)]
 pub struct SettingList {
     octets: Octets,
+    named: Named,
 }
 
 impl Model for SettingList {
-    ghost use Rattle.std.specs.Prelude.{List};
+    ghost use Rattle.std.specs.Prelude.{List, ◌≡◌};
     ghost use Rattle.h2_session.specs.Errors.{settings_of};
     ghost use Rattle.h2_session.specs.declared.act.Setting.{Setting};
 
     ghost Value = { List Setting };
 
+    ghost use Rattle.h2_session.specs.Values.{named_in};
+
     ghost view = { λ a. settings_of a.octets };
+
+    ghost invariant = { λ a. a.named ≡ named_in (settings_of a.octets) };
 }
 
 impl SettingList {
@@ -35,7 +42,23 @@ impl SettingList {
     pub fn from_octets(octets: Octets) -> Self
         ensures { result ≡ settings_of octets }
     {
-        SettingList { octets }
+        let (named, _) = read_named(octets.as_slice(), 1);
+        SettingList { octets, named }
+    }
+
+    /// As `from_octets`, where it is known what they come to.
+    pub(crate) fn of(octets: Octets, named: Named) -> Self
+        requires { named ≡ named_in (settings_of octets) }
+        ensures { result ≡ settings_of octets }
+    {
+        SettingList { octets, named }
+    }
+
+    /// What the settings come to. Takes no time.
+    pub fn named(&self) -> Named
+        ensures { result ≡ named_in self.now }
+    {
+        self.named
     }
 
     /// The octets that spell these settings. Takes no memory.

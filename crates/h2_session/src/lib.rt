@@ -3,12 +3,14 @@
 
 mod act;
 mod block;
+mod named;
 mod preface;
 mod session;
 mod settings;
 mod streams;
 
 pub use act::{Act, Setting, SettingList};
+pub use named::{InitialWindow, Named};
 pub use preface::Prefaced;
 pub use session::Session;
 pub use settings::SettingIter;

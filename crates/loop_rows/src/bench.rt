@@ -16,11 +16,11 @@ mod stopwatch;
 mod turns;
 
 use crate::bench::bursts::Burst;
-use std::io;
 use std::sync::Wait;
 use std::time::CpuClock;
 
-const USAGE: &str = "usage: loop_rows bench BENCH
+/// Which benches there are.
+pub const USAGE: &str = "usage: loop_rows bench BENCH
   gets             small exchanges by ones and by thirty-twos, beside the drill
   alone N AT_ONCE  so many small exchanges
   bodies           bodies of a MiB down and up, beside a plain copy
@@ -57,13 +57,8 @@ pub fn run(
         "turns" => turns::run(rt),
         "lines" => lines::run(rt),
         "drill" => drill::run(rt),
-        _ => Ok(usage(rt)?),
+        _ => Ok(rt.print(USAGE)?),
     }
-}
-
-/// Prints the usage.
-pub fn usage(rt: &impl Print) -> io::Result<()> {
-    rt.print(USAGE)
 }
 
 /// The number that a word spells, else 0.

@@ -58,11 +58,11 @@ mod stage;
 mod texts;
 
 use crate::case::Case;
-use crate::relay_show::show_relay;
-use crate::replay_show::show_replay;
+use crate::relay_show::say_relay;
+use crate::replay_show::say_replay;
 use crate::run::run_case;
 use crate::said::Said;
-use crate::texts::{show_codes, show_texts};
+use crate::texts::{say_codes, say_texts};
 use replay_cli::replay_words;
 use std::env::{self, Env};
 use std::io::{self, Read};
@@ -120,30 +120,6 @@ fn what_is_asked<R: Env + AllocGlobal>(rt: &R) -> io::Result<Asked> {
 // Runs the case of this text, and prints how it ends.
 fn show_case<R: Print + AllocGlobal + Threads + Wait + Sync>(rt: &R, text: &str) -> io::Result<()> {
     let (name, lines) = text.split_once('\n').unwrap_or((text, ""));
-    let (first, rest) = lines.split_once('\n').unwrap_or((lines, ""));
-    match first {
-        "relay" => show_relay(rt, name, rest),
-        "replay" => show_replay(rt, name, rest),
-        "codes" => show_codes(rt, name),
-        "bench" => show_benches(rt, name),
-        _ => match first.strip_prefix("text ") {
-            Some(which) => show_texts(rt, name, which),
-            None => show_worker(rt, name, lines),
-        },
-    }
-}
-
-// Prints which benches there are.
-fn show_benches<R: Print>(rt: &R, name: &str) -> io::Result<()> {
-    println!(rt; "## {name}")?;
-    bench::usage(rt)
-}
-
-fn show_worker<R: Print + AllocGlobal + Threads + Wait + Sync>(
-    rt: &R,
-    name: &str,
-    lines: &str,
-) -> io::Result<()> {
     let mut said = Said::new(rt.alloc());
     said.say("## ");
     said.line(name);
@@ -151,7 +127,22 @@ fn show_worker<R: Print + AllocGlobal + Threads + Wait + Sync>(
     said.print(rt)
 }
 
+// How the case of these lines ends, by the first of them.
 fn say_case<R: AllocGlobal + Threads + Wait + Sync>(rt: &R, lines: &str, said: &mut Said) {
+    let (first, rest) = lines.split_once('\n').unwrap_or((lines, ""));
+    match first {
+        "relay" => say_relay(rt.alloc(), rest, said),
+        "replay" => say_replay(rt.alloc(), rest, said),
+        "codes" => say_codes(said),
+        "bench" => said.say(bench::USAGE),
+        _ => match first.strip_prefix("text ") {
+            Some(which) => say_texts(which, said),
+            None => say_worker(rt, lines, said),
+        },
+    }
+}
+
+fn say_worker<R: AllocGlobal + Threads + Wait + Sync>(rt: &R, lines: &str, said: &mut Said) {
     let mut case = Case::new(rt.alloc());
     match case.read(lines) {
         Ok(()) => run_case(rt, &mut case, said),

@@ -1,41 +1,40 @@
 // The text of a relay's faults.
 use crate::relay_case::Case;
-use crate::relay_show::show_wired;
+use crate::said::Said;
+use crate::show::say_wired;
 use flow_notes::{Event, Notes};
-use std::io;
+use std::alloc::Global;
 use tcp_relay::{Relay, RelayFault};
 use worker_ports::Wired;
 
-/// Dispatches what the connections give, and prints the text of each fault; then that of the case's own faults.
-pub fn show_faults<R: Print + AllocGlobal>(rt: &R, case: Case) -> io::Result<()> {
-    let mut relay = Relay::new(rt.alloc(), case.limit);
-    let mut notes = Notes::new(rt.alloc());
+/// Dispatches what the connections give, and says the text of each fault; then that of the case's own faults.
+pub fn say_faults(alloc: Global, case: Case, said: &mut Said) {
+    let mut relay = Relay::new(alloc, case.limit);
+    let mut notes = Notes::new(alloc);
     for wired in case.answers {
-        show_dispatch(rt, &mut relay, &mut notes, wired)?;
+        say_dispatch(&mut relay, &mut notes, wired, said);
     }
-    tell_faults(rt, case.faults.as_slice())
+    drop(relay);
+    drop(notes);
+    for fault in case.faults.as_slice() {
+        say_fault(fault, said);
+    }
 }
 
-fn tell_faults<R: Print>(rt: &R, faults: &[RelayFault]) -> io::Result<()> {
-    for fault in faults {
-        println!(rt; "! {fault}")?;
+fn say_fault(fault: &RelayFault, said: &mut Said) {
+    match format!(in said.alloc(); "! {fault}") {
+        Ok(text) => said.line(text.as_str()),
+        Err(_) => said.lack(),
     }
-    Ok(())
 }
 
-fn show_dispatch<R: Print>(
-    rt: &R,
-    relay: &mut Relay,
-    notes: &mut Notes,
-    wired: Wired,
-) -> io::Result<()> {
-    show_wired(rt, &wired)?;
+fn say_dispatch(relay: &mut Relay, notes: &mut Notes, wired: Wired, said: &mut Said) {
+    say_wired(&wired, said);
     let Some(event) = event_of(wired) else {
-        return Ok(());
+        return;
     };
-    match relay.dispatch(&event, notes) {
-        Ok(()) => Ok(()),
-        Err(fault) => println!(rt; "! {fault}"),
+    if let Err(fault) = relay.dispatch(&event, notes) {
+        say_fault(&fault, said);
     }
 }
 

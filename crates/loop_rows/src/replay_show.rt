@@ -1,9 +1,9 @@
-// Prints what comes of a replay.
+// What comes of a replay.
 use crate::replay_case::Case;
+use crate::said::Said;
 use io_ports::{MemSink, MemSource, NoMemory, Octets};
 use replay_run::{Outcome, Status, put_reason, replay, replay_with_reason};
 use std::alloc::Global;
-use std::io;
 
 /// How many octets a sink has room for.
 const ROOM: usize = 1_000_000;
@@ -51,98 +51,89 @@ fn source(alloc: Global, octets: &[u8], failing: &[u64]) -> Result<MemSource, No
     Ok(MemSource::new(held, calls))
 }
 
-/// Prints the name of a case, reads its lines, replays it, and prints how it ends. A great value is dropped by a call, since the
-/// check follows a drop without one field by field.
-pub fn show_replay<R: Print + AllocGlobal>(rt: &R, name: &str, lines: &str) -> io::Result<()> {
-    println!(rt; "## {name}")?;
-    let mut case = Case::new(rt.alloc());
-    let end = read_and_show(rt, lines, &mut case);
-    drop(case);
-    end
-}
-
-fn read_and_show<R: Print + AllocGlobal>(rt: &R, lines: &str, case: &mut Case) -> io::Result<()> {
+/// Reads the lines of a case, replays it, and says how it ends. A great value is dropped by a call, since the check follows a drop
+/// without one field by field.
+pub fn say_replay(alloc: Global, lines: &str, said: &mut Said) {
+    let mut case = Case::new(alloc);
     for line in lines.strip_suffix('\n').unwrap_or(lines).split('\n') {
         if case.line(line).is_err() {
-            println!(rt; "no memory")?;
+            said.lack();
         }
     }
-    show_case(rt, case)
+    say_case(&case, said);
+    drop(case);
 }
 
-// Prints the status of a case with its reason, and what it writes. A small session without faults ends and writes the
+// Says the status of a case with its reason, and what it writes. A small session without faults ends and writes the
 // same in pieces of 1 and of 7 octets, or else it is said where it doesn't.
-fn show_case<R: Print + AllocGlobal>(rt: &R, case: &Case) -> io::Result<()> {
-    let Ok(mut whole) = open_outside(rt.alloc(), case, usize::MAX) else {
-        return println!(rt; "no memory");
-    };
-    let end = show_whole(rt, case, &mut whole);
-    drop(whole);
-    end
+fn say_case(case: &Case, said: &mut Said) {
+    match open_outside(said.alloc(), case, usize::MAX) {
+        Ok(mut whole) => {
+            let status = say_status(case, &mut whole, said);
+            say_written(case, status, whole.out.octets(), said);
+            drop(whole);
+        }
+        Err(_) => said.lack(),
+    }
 }
 
-fn show_whole<R: Print + AllocGlobal>(rt: &R, case: &Case, whole: &mut Outside) -> io::Result<()> {
+fn say_status(case: &Case, whole: &mut Outside, said: &mut Said) -> Status {
     let outcome = replay_with_reason(
-        rt.alloc(),
+        said.alloc(),
         case.words.as_slice(),
         &mut whole.config,
         &mut whole.session,
         &mut whole.out,
     );
+    say_outcome(&outcome, said);
     let status = outcome.status;
-    let told = show_outcome(rt, &outcome);
     drop(outcome);
-    told?;
-    show_written(rt, case, status, whole.out.octets())
+    status
 }
 
-fn show_written<R: Print + AllocGlobal>(
-    rt: &R,
-    case: &Case,
-    status: Status,
-    text: &[u8],
-) -> io::Result<()> {
+fn say_written(case: &Case, status: Status, text: &[u8], said: &mut Said) {
     if case.is_long {
-        return show_lines(rt, last_line(text));
+        say_lines(last_line(text), said);
+        return;
     }
-    show_lines(rt, text)?;
+    say_lines(text, said);
     let session = case.session.len();
     if case.is_sound() && 0 < session && session <= SMALL {
-        show_difference(rt, case, status, text, 1)?;
-        show_difference(rt, case, status, text, 7)?;
+        say_difference(case, status, text, 1, said);
+        say_difference(case, status, text, 7, said);
     }
-    Ok(())
 }
 
-fn show_outcome<R: Print + AllocGlobal>(rt: &R, outcome: &Outcome) -> io::Result<()> {
-    let status = outcome.status;
-    let mut text = Octets::new(rt.alloc());
-    let told = put_reason(rt.alloc(), &outcome.reason, &mut text);
-    match (told, text.is_empty()) {
-        (Ok(()), true) => println!(rt; "{} {status:?}", status.code()),
-        (Ok(()), false) => {
-            println!(rt; "{} {status:?}: {}", status.code(), shown(text.as_slice()))
+fn say_outcome(outcome: &Outcome, said: &mut Said) {
+    say_code(outcome.status, said);
+    let mut text = Octets::new(said.alloc());
+    if put_reason(said.alloc(), &outcome.reason, &mut text).is_err() {
+        said.lack();
+    }
+    if !text.is_empty() {
+        said.say(": ");
+        said.say(shown(text.as_slice()));
+    }
+    said.line("");
+}
+
+/// The code of a status, and its name.
+pub fn say_code(status: Status, said: &mut Said) {
+    match format!(in said.alloc(); "{} {status:?}", status.code()) {
+        Ok(text) => said.say(text.as_str()),
+        Err(_) => said.lack(),
+    }
+}
+
+fn say_difference(case: &Case, status: Status, text: &[u8], most: usize, said: &mut Said) {
+    match open_outside(said.alloc(), case, most) {
+        Ok(mut pieces) => {
+            if !ends_so(said.alloc(), case, status, text, &mut pieces) {
+                said.line_with("otherwise in pieces of ", most as u64);
+            }
+            drop(pieces);
         }
-        (Err(_), _) => println!(rt; "no memory"),
-    }
-}
-
-fn show_difference<R: Print + AllocGlobal>(
-    rt: &R,
-    case: &Case,
-    status: Status,
-    text: &[u8],
-    most: usize,
-) -> io::Result<()> {
-    let Ok(mut pieces) = open_outside(rt.alloc(), case, most) else {
-        return println!(rt; "no memory");
-    };
-    let same = ends_so(rt.alloc(), case, status, text, &mut pieces);
-    drop(pieces);
-    if same {
-        Ok(())
-    } else {
-        println!(rt; "otherwise in pieces of {most}")
+        Err(_) => said.lack(),
     }
 }
 
@@ -163,21 +154,26 @@ fn last_line(text: &[u8]) -> &[u8] {
     lines.rsplit(|octet| *octet == b'\n').next().unwrap_or(b"")
 }
 
-/// Prints a text, each line of it shortened to its front and its length where it is long.
-pub fn show_lines<R: Print>(rt: &R, text: &[u8]) -> io::Result<()> {
+/// A text, each line of it shortened to its front and its length where it is long.
+pub fn say_lines(text: &[u8], said: &mut Said) {
     if text.is_empty() {
-        return Ok(());
+        return;
     }
     let lines = text.strip_suffix(b"\n").unwrap_or(text);
     for line in lines.split(|octet| *octet == b'\n') {
-        match line.get(..SHOWN) {
-            Some(front) if front.len() < line.len() => {
-                println!(rt; "{}.. {} octets", shown(front), line.len())?;
-            }
-            _ => println!(rt; "{}", shown(line))?,
-        }
+        say_line(line, said);
     }
-    Ok(())
+}
+
+fn say_line(line: &[u8], said: &mut Said) {
+    match line.get(..SHOWN) {
+        Some(front) if front.len() < line.len() => {
+            said.say(shown(front));
+            said.say_with(".. ", line.len() as u64);
+            said.line(" octets");
+        }
+        _ => said.line(shown(line)),
+    }
 }
 
 fn shown(octets: &[u8]) -> &str {

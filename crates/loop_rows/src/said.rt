@@ -19,6 +19,10 @@ impl Said {
         }
     }
 
+    pub fn alloc(&self) -> Global {
+        self.alloc
+    }
+
     pub fn say(&mut self, words: &str) {
         if self.text.push_str(words).is_err() {
             self.lacks = true;
@@ -58,4 +62,18 @@ impl Said {
         }
         rt.print(self.text.as_str())
     }
+}
+
+/// Prints a line of numbers, each behind its words, and the words at its end.
+pub fn print_line<R: Print + AllocGlobal>(
+    rt: &R,
+    numbers: &[(&str, u64)],
+    end: &str,
+) -> io::Result<()> {
+    let mut said = Said::new(rt.alloc());
+    for number in numbers {
+        said.say_with(number.0, number.1);
+    }
+    said.line(end);
+    said.print(rt)
 }

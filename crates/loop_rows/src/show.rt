@@ -76,7 +76,8 @@ fn say_record(wires: &MemWires, said: &mut Said) {
     said.line_with("faults ", wires.faults());
 }
 
-fn say_wired(wired: &Wired, said: &mut Said) {
+/// Says what the connections gave.
+pub fn say_wired(wired: &Wired, said: &mut Said) {
     match wired {
         Wired::Accept(conn) => said.say_with("< accept ", u64::from(*conn)),
         Wired::Join(conn, cluster) => say_two("< join ", *conn, u64::from(*cluster), said),
@@ -88,7 +89,8 @@ fn say_wired(wired: &Wired, said: &mut Said) {
     said.line("");
 }
 
-fn say_two(words: &str, conn: u32, number: u64, said: &mut Said) {
+/// Words, and two numbers behind them.
+pub fn say_two(words: &str, conn: u32, number: u64, said: &mut Said) {
     said.say_with(words, u64::from(conn));
     said.say_with(" ", number);
 }

@@ -3,12 +3,12 @@ ghost use Rattle.flow_notes.specs.Event.{IsEvent};
 ghost use Rattle.std.specs.List.{AllByRecursion};
 ghost use Rattle.std.specs.Prelude.{◌<◌, IfOk, List, ℕ};
 
-use crate::replay_show::show_lines;
+use crate::replay_show::{say_code, say_lines};
+use crate::said::Said;
 use flow_notes::{Event, EventList, Names, PlainEvent};
 use io_ports::{NoMemory, Octets};
 use replay_run::{Status, drill_events, session_text};
 use std::alloc::Global;
-use std::io;
 use tape_laws::PlainLimits;
 
 const LIMITS: PlainLimits = PlainLimits {
@@ -18,35 +18,36 @@ const LIMITS: PlainLimits = PlainLimits {
     quantum: 16_384,
 };
 
-/// Prints the name of a case, and a plain session, a wire session, or the whole drill of one stream and how many events drills have.
-pub fn show_texts<R: Print + AllocGlobal>(rt: &R, name: &str, which: &str) -> io::Result<()> {
-    println!(rt; "## {name}")?;
+/// A plain session, a wire session, or the whole drill of one stream and how many events drills have.
+pub fn say_texts(which: &str, said: &mut Said) {
     match which {
-        "plain" => show_text(rt, plain_text(rt.alloc())),
-        "wire" => show_text(rt, wire_text(rt.alloc())),
-        _ => show_drills(rt),
+        "plain" => say_text(plain_text(said.alloc()), said),
+        "wire" => say_text(wire_text(said.alloc()), said),
+        _ => say_drills(said),
     }
 }
 
-fn show_drills<R: Print + AllocGlobal>(rt: &R) -> io::Result<()> {
-    show_text(rt, drill_text(rt.alloc()))?;
+fn say_drills(said: &mut Said) {
+    say_text(drill_text(said.alloc()), said);
     for n in [1, 2, 1_000] {
-        show_drill(rt, n, drill_events(rt.alloc(), n))?;
-    }
-    Ok(())
-}
-
-fn show_drill<R: Print>(rt: &R, n: u32, events: Result<EventList, NoMemory>) -> io::Result<()> {
-    match events {
-        Ok(events) => println!(rt; "## a drill of {n} has {} events", events.len()),
-        Err(NoMemory) => println!(rt; "no memory"),
+        say_drill(n, said);
     }
 }
 
-fn show_text<R: Print>(rt: &R, text: Result<Octets, NoMemory>) -> io::Result<()> {
+fn say_drill(n: u32, said: &mut Said) {
+    let Ok(events) = drill_events(said.alloc(), n) else {
+        said.lack();
+        return;
+    };
+    said.say_with("## a drill of ", u64::from(n));
+    said.say_with(" has ", events.len() as u64);
+    said.line(" events");
+}
+
+fn say_text(text: Result<Octets, NoMemory>, said: &mut Said) {
     match text {
-        Ok(text) => show_lines(rt, text.as_slice()),
-        Err(_) => println!(rt; "no memory"),
+        Ok(text) => say_lines(text.as_slice(), said),
+        Err(_) => said.lack(),
     }
 }
 
@@ -95,9 +96,8 @@ fn drill_text(alloc: Global) -> Result<Octets, NoMemory> {
     Ok(text)
 }
 
-/// Prints the name of a case, and each status with its code.
-pub fn show_codes<R: Print>(rt: &R, name: &str) -> io::Result<()> {
-    println!(rt; "## {name}")?;
+/// Each status with its code.
+pub fn say_codes(said: &mut Said) {
     for status in [
         Status::Done,
         Status::Usage,
@@ -108,7 +108,7 @@ pub fn show_codes<R: Print>(rt: &R, name: &str) -> io::Result<()> {
         Status::Memory,
         Status::TooLong,
     ] {
-        println!(rt; "{} {status:?}", status.code())?;
+        say_code(status, said);
+        said.line("");
     }
-    Ok(())
 }

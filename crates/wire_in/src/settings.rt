@@ -8,26 +8,11 @@ ghost use Rattle.wire_state.specs.Worlds.{Goes, Keeps, KeepsOk};
 use crate::faults::close_with;
 use flow_notes::Notes;
 use h2_frames::codes::FLOW_CONTROL_ERROR;
-use h2_session::SettingList;
+use h2_session::{Named, SettingList};
 use io_ports::NoMemory;
 use wire_ends::put;
 use wire_outlet::Control;
 use wire_state::{Conn, WireCore};
-
-const INITIAL_WINDOW_SIZE: u16 = 4;
-
-/// Settings from this number on aren't looked at.
-const OTHERS: u16 = 6;
-
-/// What a SETTINGS frame comes to: each setting that it names has its last value, and of the initial windows the greatest is
-/// looked at too, since no stream may pass it on the way.
-#[derive(Clone, Copy)]
-struct Named {
-    table: bool,
-    concurrent: Option<u32>,
-    payload: Option<u32>,
-    initial: Option<(u32, u32)>,
-}
 
 /// The peer's settings.
 pub(crate) fn settings(
@@ -42,7 +27,7 @@ pub(crate) fn settings(
     ensures notes { Appends notes.old notes.new }
     ensures octets { Goes result core.old notes.old core.new notes.new }
 {
-    let named = named_in(list);
+    let named = list.named();
     set_concurrent(core, number, named.concurrent);
     let before = initial_of(core, number);
     if !set_windows(core, number, named) {
@@ -92,32 +77,8 @@ fn set_windows_of(conn: &mut Conn, named: Named) -> bool
         conn.set_payload(payload);
     }
     match named.initial {
-        Some((greatest, last)) => conn.set_initial(greatest, last),
+        Some(window) => conn.set_initial(window.greatest, window.last),
         None => true,
-    }
-}
-
-// What the settings come to. The last value of each number lies in that place, and of all that aren't looked at in the last one: so
-// no branch depends on the numbers, of which a frame may have many.
-#[inline(never)]
-fn named_in(list: &SettingList) -> Named {
-    let mut last = [None; 7];
-    let mut greatest = 0;
-    for setting in list.iter() {
-        last[usize::from(setting.id.min(OTHERS))] = Some(setting.value);
-        let window = if setting.id == INITIAL_WINDOW_SIZE {
-            setting.value
-        } else {
-            0
-        };
-        greatest = window.max(greatest);
-    }
-    let [_, table, _, concurrent, initial, payload, _] = last;
-    Named {
-        table: table.is_some(),
-        concurrent,
-        payload,
-        initial: initial.map(|window| (greatest, window)),
     }
 }
 

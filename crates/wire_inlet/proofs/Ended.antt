@@ -1,4 +1,4 @@
--- The octets of a DATA frame without padding stand right before its end.
+-- The octets of a DATA frame without padding, and the entries of SETTINGS, stand right before its end.
 use Rattle.std.proofs.Common.{◌≡◌, ℕ, ◌+◌, ◌-◌, ◌≤◌, Bool, true, false, List, ◌++◌, length, take, drop, sym, subst, ap, ◌∙◌, arith}
 use Rattle.std.proofs.Math.Seq.{drop-append-add, drop-append_seam, take-append_seam}
 use Rattle.std.proofs.lemmas.List.{append_assoc, length-append, length-take-le, take-append-drop}
@@ -32,12 +32,17 @@ data_ends max front frames octets used stream padded last most s = λ none.
     let alone = content_alone (tells_padding s.head) s.payload octets padded none s.says.4 in
     behind_head front frames (head_octets s.begins.reserved s.head) octets used (omega arith) most (s.begins.front ∙ ap (λ (l : List ℕ). head_octets s.begins.reserved s.head ++ l) alone)
 
+settings_ends : (max : ℕ) (front frames entries : List ℕ) (used : ℕ) (ack : Bool) → used ≤ length frames → SpellsFrame max (take used frames) (Settings ack entries)
+    → EndsAt (length front + used) (front ++ frames) (Settings ack entries)
+settings_ends max front frames entries used ack most s =
+    behind_head front frames (head_octets s.begins.reserved s.head) entries used (omega arith) most (s.begins.front ∙ ap (λ (l : List ℕ). head_octets s.begins.reserved s.head ++ l) s.says.3)
+
 frame_ends : (max : ℕ) (front frames : List ℕ) (used : ℕ) (frame : Frame) → used ≤ length frames → SpellsFrame max (take used frames) frame → EndsAt (length front + used) (front ++ frames) frame
 frame_ends max front frames used (DataFrame stream last padded octets) most s = data_ends max front frames octets used stream padded last most s
 frame_ends max front frames used (Headers stream last end_headers padded priority block) most s = tt
 frame_ends max front frames used (Priority stream priority) most s = tt
 frame_ends max front frames used (Reset stream code) most s = tt
-frame_ends max front frames used (Settings ack entries) most s = tt
+frame_ends max front frames used (Settings ack entries) most s = settings_ends max front frames entries used ack most s
 frame_ends max front frames used (Push stream end_headers padded promised block) most s = tt
 frame_ends max front frames used (Ping ack octets) most s = tt
 frame_ends max front frames used (GoAway last code debug) most s = tt

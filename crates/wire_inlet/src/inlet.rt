@@ -48,7 +48,7 @@ fn behind_preface<'a>(
     }
 }
 
-// The octets of a DATA frame without padding that ends at a place.
+// The octets of a DATA frame without padding, or the entries of SETTINGS, that ends at a place.
 fn content_before(unread: &Unread, end: usize, frame: &Frame) -> Result<Option<Octets>, NoMemory>
     requires { EndsAt end unread.now (view frame.now) }
     ensures { IfOk result (λ content. IfSome content (IsContentOf (view frame.now))) }
@@ -60,6 +60,10 @@ fn content_before(unread: &Unread, end: usize, frame: &Frame) -> Result<Option<O
             ..
         } => {
             let n = octets.len();
+            Ok(Some(unread.part(end - n, n)?))
+        }
+        Frame::Settings { entries, .. } => {
+            let n = entries.len();
             Ok(Some(unread.part(end - n, n)?))
         }
         _ => Ok(None),

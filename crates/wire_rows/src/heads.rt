@@ -1,6 +1,6 @@
 //! Heads and trailers, judged one after another with the lengths of both bodies of one exchange.
 //!
-//! A LIST is as in `http_rows`: its fields between ` | `, each a name, a space and a value; or `long` for a list that is
+//! A LIST is as in `layer_rows`: its fields between ` | `, each a name, a space and a value; or `long` for a list that is
 //! longer than its limit. A word `end` in front of it says that the stream ends there.
 //!
 //! | Call | What is done, and what is printed |

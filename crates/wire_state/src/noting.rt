@@ -2,7 +2,8 @@
 ghost use Rattle.std.specs.Prelude.{◌≡◌, ◌++◌, ◌∷◌, [], OnOk};
 ghost use Rattle.wire_flows.specs.Writes.{watchers_on};
 ghost use Rattle.wire_state.specs.Noting.{Appends, IsStep, answers_of, heads_of, pauses_of};
-ghost use Rattle.wire_state.specs.Worlds.{IsIdle, Pays, Shows};
+ghost use Rattle.wire_state.specs.Sound.{IsSound};
+ghost use Rattle.wire_state.specs.Worlds.{IsIdle, Pays, Shows, TurnsAnew};
 
 use crate::wire_core::WireCore;
 use flow_gate::BufferId;
@@ -24,7 +25,7 @@ pub trait CarryOut {
         requires sound { IsSound core.old }
         ensures sound { OnOk result (IsSound core.new) }
         ensures notes { Appends notes.old notes.new }
-        ensures octets { Turns result event.now core.old notes.old core.new notes.new };
+        ensures octets { TurnsAnew result event.now core.old notes.old core.new notes.new };
 }
 
 /// Writes a note.

@@ -2,7 +2,7 @@
 ghost use Rattle.std.specs.Prelude.{OnOk};
 ghost use Rattle.wire_state.specs.Noting.{Appends};
 ghost use Rattle.wire_state.specs.Sound.{IsSound};
-ghost use Rattle.wire_state.specs.Worlds.{Turns};
+ghost use Rattle.wire_state.specs.Worlds.{TurnsAnew};
 
 use crate::steps::settle;
 use flow_notes::{Event, Notes};

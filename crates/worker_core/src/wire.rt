@@ -7,7 +7,7 @@ ghost use Rattle.wire_state.specs.Sound.{IsSound, is_open_at};
 ghost use Rattle.overload_core.specs.ActionStates.{is_saturated};
 ghost use Rattle.worker_core.specs.Dispatching.{Breaks, Dispatches, Tells, obeyed_after};
 ghost use Rattle.worker_core.specs.Fronts.{IsFront, IsLeastAbove, has_octets, is_there, octets_at};
-ghost use Rattle.wire_state.specs.Worlds.{Follows, Rests, TurnsAnew};
+ghost use Rattle.wire_state.specs.Worlds.{Follows, Rests};
 
 use flow_notes::{Event, Note, Notes};
 use io_ports::NoMemory;

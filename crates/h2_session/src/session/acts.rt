@@ -4,14 +4,16 @@ ghost use Rattle.h2_frames.specs.Frame.{padding_of, DataFrame, Reset};
 ghost use Rattle.h2_frames.specs.Spelling.{IsWritable};
 ghost use Rattle.h2_frames.specs.View.{view};
 ghost use Rattle.h2_session.specs.Acts.{IsContentOf, act_of, data_act, reset_act, stream_of, update_act};
-ghost use Rattle.h2_session.specs.Errors.{after, breaks_block, error_of};
+ghost use Rattle.h2_session.specs.Errors.{after, breaks_block, error_of, settings_of};
 ghost use Rattle.h2_session.specs.Happened.{Happening};
 ghost use Rattle.h2_session.specs.Table.{stream_at};
 ghost use Rattle.h2_session.specs.declared.act.Act.TheVariants as act;
 ghost use Rattle.h2_session.specs.Summary.{StandsFor, Takes};
+ghost use Rattle.h2_session.specs.Values.{named_by, named_in};
 
 use super::Session;
-use crate::act::Act;
+use crate::act::{Act, SettingList};
+use crate::named::{Named, named_by};
 use crate::settings::read_settings;
 use crate::streams::Stream;
 use h2_frames::Frame;
@@ -37,7 +39,8 @@ impl Session {
         self.accept_with(frame, None)
     }
 
-    /// As `accept`, where the octets of a DATA frame may be handed in as octets that share a block, so that none is copied.
+    /// As `accept`, where the octets of a DATA frame and the entries of SETTINGS may be handed in as octets that share a block, so
+    /// that none is copied.
     pub fn accept_with(&mut self, frame: &Frame, content: Option<Octets>) -> Result<Act, NoMemory>
         requires writable { IsWritable (view frame.now) }
         requires padding { padding_of (view frame.now) ≤ 256 }
@@ -50,36 +53,49 @@ impl Session {
         ensures numbered { IfOk result (λ act. stream_of act < 2 ^ 31) }
         ensures err { OnErr result (self.new ≡ self.old) }
     {
-        if let Some(code) = self.error(frame) {
+        let (named, outside) = named_by(frame, self.client_side);
+        if let Some(code) = self.error(frame, outside) {
             self.failed = Some(code);
             return Ok(Act::ConnError { code });
         }
-        let act = self.take_with(frame, content)?;
+        let act = self.take_with(frame, content, named)?;
         self.started = true;
         Ok(act)
     }
 
-    // As `take`, with the octets of a DATA frame where they are handed in.
-    fn take_with(&mut self, frame: &Frame, content: Option<Octets>) -> Result<Act, NoMemory>
+    // As `take`, with the octets of a DATA frame or the entries of SETTINGS where they are handed in, and what these come to.
+    fn take_with(
+        &mut self,
+        frame: &Frame,
+        content: Option<Octets>,
+        named: Option<Named>,
+    ) -> Result<Act, NoMemory>
         requires writable { IsWritable (view frame.now) }
         requires padding { padding_of (view frame.now) ≤ 256 }
         requires content { IfSome content (IsContentOf (view frame.now)) }
+        requires named { named ≡ named_by (view frame.now) }
         ensures takes { (past : List Happening) → StandsFor past self.old → error_of self.old.side (view frame.now) past ≡ None
             → IfOk result (λ act. Takes (view frame.now) self.old self.new act past) }
         ensures side { self.new.side ≡ self.old.side }
         ensures numbered { breaks_block (view frame.now) self.old.block ≡ false → IfOk result (λ act. stream_of act < 2 ^ 31) }
         ensures err { OnErr result (self.new ≡ self.old) }
     {
-        let Frame::DataFrame {
-            stream,
-            last,
-            padded,
-            octets,
-        } = *frame
-        else {
-            return self.take(frame);
-        };
-        self.take_data(stream, last, padded, octets, content)
+        match *frame {
+            Frame::DataFrame {
+                stream,
+                last,
+                padded,
+                octets,
+            } => self.take_data(stream, last, padded, octets, content),
+            Frame::Settings {
+                ack: false,
+                entries,
+            } => {
+                let list = list_with(self.alloc, entries, content, named)?;
+                Ok(Act::Settings { list })
+            }
+            _ => self.take(frame),
+        }
     }
 
     // What a frame that is no connection error means.
@@ -184,6 +200,24 @@ fn data_act(
         octets: content_or_copy(alloc, octets, content)?,
         padded,
         last,
+    })
+}
+
+// The settings of entries, in the octets that are handed in or else in a copy.
+fn list_with(
+    alloc: Global,
+    entries: &[u8],
+    content: Option<Octets>,
+    named: Option<Named>,
+) -> Result<SettingList, NoMemory>
+    requires content { IfSome content (λ shared. shared ≡ entries.now) }
+    requires named { IfSome named (λ n. n ≡ named_in (settings_of entries.now)) }
+    ensures { IfOk result (λ list. list ≡ settings_of entries.now) }
+{
+    let octets = content_or_copy(alloc, entries, content)?;
+    Ok(match named {
+        Some(named) => SettingList::of(octets, named),
+        None => SettingList::from_octets(octets),
     })
 }
 

@@ -2,11 +2,12 @@
 ghost use Rattle.std.specs.Prelude.{◌≡◌, not};
 ghost use Rattle.h2_frames.specs.View.{view};
 ghost use Rattle.h2_session.specs.Errors.{error_by, first_of, is_empty_data, is_push, is_settings, is_zero_update, settings_error, value_error};
+ghost use Rattle.h2_session.specs.Values.{code_of, outside_by};
 ghost use Rattle.h2_session.specs.Summary.{is_idle_in, uses_idle_in};
 
 use super::Session;
 use crate::block::{breaks_block, is_great};
-use crate::settings::named_outside;
+use crate::named::Outside;
 use h2_frames::Frame;
 use h2_frames::codes::{ENHANCE_YOUR_CALM, FLOW_CONTROL_ERROR, PROTOCOL_ERROR};
 
@@ -49,14 +50,19 @@ fn is_empty_data(frame: &Frame) -> bool
 }
 
 // A setting out of its range: the code of the first rule that is broken.
-fn settings_error(frame: &Frame, client_side: bool) -> Option<u32>
+fn settings_error(frame: &Frame, client_side: bool, outside: Outside) -> Option<u32>
+    requires { outside ≡ outside_by client_side (view frame.now) }
     ensures { result ≡ settings_error client_side (view frame.now) }
 {
-    let Frame::Settings { entries, .. } = *frame else {
+    let Frame::Settings { .. } = *frame else {
         return None;
     };
-    let most_push = if client_side { 0 } else { 1 };
-    let outside = named_outside(entries, most_push);
+    code_of(outside)
+}
+
+fn code_of(outside: Outside) -> Option<u32>
+    ensures { result ≡ code_of outside }
+{
     if outside.push {
         Some(PROTOCOL_ERROR)
     } else if outside.initial_window {
@@ -98,7 +104,8 @@ impl Session {
     }
 
     /// The code of the connection error that a frame is, if it is one or an earlier one was.
-    pub(super) fn error(&self, frame: &Frame) -> Option<u32>
+    pub(super) fn error(&self, frame: &Frame, outside: Outside) -> Option<u32>
+        requires { outside ≡ outside_by self.now.side.client_side (view frame.now) }
         ensures { result ≡ first_of self.now.failed (error_by self.now.side (view frame.now) (not self.now.started)
             self.now.block (uses_idle_in self.now (view frame.now)) self.now.empties) }
     {
@@ -125,15 +132,16 @@ impl Session {
         if self.uses_idle(frame) {
             return Some(PROTOCOL_ERROR);
         }
-        self.late_error(frame)
+        self.late_error(frame, outside)
     }
 
     // The errors of the values in a frame.
-    fn late_error(&self, frame: &Frame) -> Option<u32>
+    fn late_error(&self, frame: &Frame, outside: Outside) -> Option<u32>
+        requires { outside ≡ outside_by self.now.side.client_side (view frame.now) }
         ensures { result ≡ value_error self.now.side (view frame.now) self.now.empties }
     {
         // Section 6.5.2.
-        if let Some(code) = settings_error(frame, self.client_side) {
+        if let Some(code) = settings_error(frame, self.client_side, outside) {
             return Some(code);
         }
         // Section 6.9.

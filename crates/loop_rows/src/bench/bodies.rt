@@ -2,6 +2,7 @@
 use crate::bench::peers::{Peers, client_and_cluster, stream_after};
 use crate::bench::rig::{Rig, no_memory};
 use crate::bench::stopwatch::{CpuStopwatch, tenths};
+use crate::said::print_line;
 use flow_notes::Event;
 use io_ports::{NoMemory, Octets};
 use std::alloc::Global;
@@ -131,19 +132,18 @@ fn copy(event: &Event, block: &mut Octets) -> Result<(), NoMemory> {
 /// A MiB down and up, beside a plain copy.
 pub fn run(rt: &(impl AllocGlobal + Print + CpuClock)) -> anyhow::Result<()> {
     let down = pass(rt, DOWN)?;
-    report(rt, "down", down)?;
+    report(rt, "a MiB down: ", down)?;
     let up = pass(rt, UP)?;
-    report(rt, "up", up)
+    report(rt, "a MiB up: ", up)
 }
 
-fn report(rt: &impl Print, way: &str, least: Least) -> anyhow::Result<()> {
+fn report(rt: &(impl AllocGlobal + Print), way: &str, least: Least) -> anyhow::Result<()> {
     let times = tenths(least.passed, least.copied);
-    println!(rt;
-        "a MiB {way}: {} ns, copied: {} ns, {}.{} times",
-        least.passed,
-        least.copied,
-        times / 10,
-        times % 10
-    )?;
-    Ok(())
+    let numbers = [
+        (way, least.passed),
+        (" ns, copied: ", least.copied),
+        (" ns, ", times / 10),
+        (".", times % 10),
+    ];
+    Ok(print_line(rt, &numbers, " times")?)
 }

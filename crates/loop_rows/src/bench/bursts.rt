@@ -1,6 +1,7 @@
 // What one event costs that has to do with all exchanges of a client: a close, a low, SETTINGS.
 use crate::bench::peers::{Peers, stream_after};
 use crate::bench::rig::{Cost, cost_behind, no_memory};
+use crate::said::print_line;
 use io_ports::NoMemory;
 use std::alloc::Global;
 use std::time::CpuClock;
@@ -37,15 +38,15 @@ pub fn run(rt: &(impl AllocGlobal + Print + CpuClock), burst: Burst) -> anyhow::
     Ok(())
 }
 
-fn report(rt: &impl Print, n: u32, cost: Cost) -> anyhow::Result<()> {
+fn report(rt: &(impl AllocGlobal + Print), n: u32, cost: Cost) -> anyhow::Result<()> {
     let notes = cost.notes.max(1);
-    println!(rt;
-        "{n} exchanges: {} ns, {} notes, {} ns a note",
-        cost.nanos,
-        notes,
-        cost.nanos / notes
-    )?;
-    Ok(())
+    let numbers = [
+        ("", u64::from(n)),
+        (" exchanges: ", cost.nanos),
+        (" ns, ", notes),
+        (" notes, ", cost.nanos / notes),
+    ];
+    Ok(print_line(rt, &numbers, " ns a note")?)
 }
 
 // The least of some turns.

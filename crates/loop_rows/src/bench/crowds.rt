@@ -3,6 +3,7 @@ use crate::bench::gets::{CONFIG, EXCHANGES, Route, exchanges};
 use crate::bench::peers::{Peers, stream_after};
 use crate::bench::rig::{Cost, Rig, cost_behind, no_memory};
 use crate::bench::stopwatch::tenths;
+use crate::said::print_line;
 use io_ports::NoMemory;
 use std::alloc::Global;
 use std::time::CpuClock;
@@ -73,13 +74,20 @@ pub fn idle(rt: &(impl AllocGlobal + Print + CpuClock), count: u32) -> anyhow::R
     report_idle(rt, count, few, many)
 }
 
-fn report_idle(rt: &impl Print, count: u32, few: u64, many: u64) -> anyhow::Result<()> {
-    let times = tenths(many.saturating_mul(10), few);
-    println!(rt;
-        "beside {FEW} idle connections and exchanges: {few} ns an exchange; beside {count}: {many} ns, {} hundredths",
-        times
-    )?;
-    Ok(())
+fn report_idle(
+    rt: &(impl AllocGlobal + Print),
+    count: u32,
+    few: u64,
+    many: u64,
+) -> anyhow::Result<()> {
+    let numbers = [
+        ("beside ", u64::from(FEW)),
+        (" idle connections and exchanges: ", few),
+        (" ns an exchange; beside ", u64::from(count)),
+        (": ", many),
+        (" ns, ", tenths(many.saturating_mul(10), few)),
+    ];
+    Ok(print_line(rt, &numbers, " hundredths")?)
 }
 
 /// Small exchanges beside so many idle connections and exchanges: nanoseconds.
@@ -154,14 +162,19 @@ fn ticks(
     Ok((rig.cost(rt, idle)?, rig.cost(rt, &last)?))
 }
 
-fn report_ticks(rt: &impl Print, n: u32, idle: Cost, fired: Cost) -> anyhow::Result<()> {
+fn report_ticks(
+    rt: &(impl AllocGlobal + Print),
+    n: u32,
+    idle: Cost,
+    fired: Cost,
+) -> anyhow::Result<()> {
     let notes = fired.notes.max(1);
-    println!(rt;
-        "beside {n} idle Meters: {} ns a tick that fires nothing; {} ns the tick that fires all, {} notes, {} ns a note",
-        idle.nanos / TICKS,
-        fired.nanos,
-        notes,
-        fired.nanos / notes
-    )?;
-    Ok(())
+    let numbers = [
+        ("beside ", u64::from(n)),
+        (" idle Meters: ", idle.nanos / TICKS),
+        (" ns a tick that fires nothing; ", fired.nanos),
+        (" ns the tick that fires all, ", notes),
+        (" notes, ", fired.nanos / notes),
+    ];
+    Ok(print_line(rt, &numbers, " ns a note")?)
 }

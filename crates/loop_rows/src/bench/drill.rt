@@ -1,6 +1,7 @@
 // A drill from end to end, beside its octets through two watermark buffers.
 use crate::bench::rig::{no_memory, piece};
 use crate::bench::stopwatch::{CpuStopwatch, per_second};
+use crate::said::print_line;
 use anyhow::{bail, ensure};
 use flow_notes::{Event, EventList, PlainEvent};
 use io_ports::{MemSink, MemSource, NoMemory};
@@ -202,18 +203,27 @@ fn report(
     bodies: u64,
     pieces: u64,
 ) -> anyhow::Result<()> {
-    let a_second = per_second(events, drill.max(1));
-    println!(rt;
-        "drill {STREAMS}: {events} events with {octets} octets in {drill} ns, {a_second} events a second"
-    )?;
-    compare(rt, drill, "the same bodies through two buffers", bodies)?;
-    compare(rt, drill, "as many octets in pieces of 16384", pieces)
+    let numbers = [
+        ("drill ", u64::from(STREAMS)),
+        (": ", events),
+        (" events with ", octets),
+        (" octets in ", drill),
+        (" ns, ", per_second(events, drill.max(1))),
+    ];
+    print_line(rt, &numbers, " events a second")?;
+    compare(rt, drill, "the same bodies through two buffers: ", bodies)?;
+    compare(rt, drill, "as many octets in pieces of 16384: ", pieces)
 }
 
-fn compare(rt: &impl Print, drill: u64, what: &str, nanos: u64) -> anyhow::Result<()> {
-    println!(rt;
-        "{what}: {nanos} ns, the drill takes {} times that",
-        drill / nanos.max(1)
-    )?;
-    Ok(())
+fn compare(
+    rt: &(impl AllocGlobal + Print),
+    drill: u64,
+    what: &str,
+    nanos: u64,
+) -> anyhow::Result<()> {
+    let numbers = [
+        (what, nanos),
+        (" ns, the drill takes ", drill / nanos.max(1)),
+    ];
+    Ok(print_line(rt, &numbers, " times that")?)
 }

@@ -1,6 +1,7 @@
 // Exchanges whose buffers are full.
 use crate::bench::peers::{Peers, stream_after};
 use crate::bench::rig::{Rig, piece};
+use crate::said::print_line;
 use io_ports::NoMemory;
 use std::alloc::Global;
 use std::cmp;
@@ -45,12 +46,18 @@ fn fill_all(rig: &mut Rig, alloc: Global, clients: u32) -> anyhow::Result<u64> {
     Ok(taken)
 }
 
-fn report(rt: &impl Print, clients: u32, taken: u64) -> anyhow::Result<()> {
+fn report(rt: &(impl AllocGlobal + Print), clients: u32, taken: u64) -> anyhow::Result<()> {
     let flows = u64::from(clients).saturating_mul(u64::from(2 * LANES));
-    let limits = flows.saturating_mul(LIMITS);
-    let most = flows.saturating_mul(LIMITS.saturating_add(UNIT));
-    println!(rt; "{flows} flows took {taken} octets of {limits}; with a unit each {most}")?;
-    Ok(())
+    let numbers = [
+        ("", flows),
+        (" flows took ", taken),
+        (" octets of ", flows.saturating_mul(LIMITS)),
+        (
+            "; with a unit each ",
+            flows.saturating_mul(LIMITS.saturating_add(UNIT)),
+        ),
+    ];
+    Ok(print_line(rt, &numbers, "")?)
 }
 
 // A cluster's connection and a client come, which take nothing, and both send on each stream what they may. The answer is

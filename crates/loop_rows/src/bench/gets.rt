@@ -3,6 +3,7 @@ use crate::bench::drill::{drill_once, events_a_second};
 use crate::bench::peers::{Peers, client_and_cluster, stream_after};
 use crate::bench::rig::{cost_behind, no_memory};
 use crate::bench::stopwatch::per_second;
+use crate::said::print_line;
 use io_ports::NoMemory;
 use std::alloc::Global;
 use std::time::CpuClock;
@@ -82,18 +83,27 @@ fn measure(rt: &(impl AllocGlobal + CpuClock)) -> anyhow::Result<Least> {
 pub fn run(rt: &(impl AllocGlobal + Print + CpuClock)) -> anyhow::Result<()> {
     let least = measure(rt)?;
     let drill = events_a_second(least.drill);
-    println!(rt; "drill: {drill} events a second")?;
+    print_line(rt, &[("drill: ", drill)], " events a second")?;
     report(rt, 1, least.ones, drill)?;
     report(rt, AT_ONCE, least.many, drill)
 }
 
-fn report(rt: &impl Print, at_once: u32, nanos: u64, drill: u64) -> anyhow::Result<()> {
+fn report(
+    rt: &(impl AllocGlobal + Print),
+    at_once: u32,
+    nanos: u64,
+    drill: u64,
+) -> anyhow::Result<()> {
     let rate = per_second(u64::from(EXCHANGES), nanos.max(1));
-    println!(rt;
-        "{at_once} at once: {rate} exchanges a second, {} in a thousand of the drill's events",
-        rate.saturating_mul(1_000) / drill.max(1)
-    )?;
-    Ok(())
+    let numbers = [
+        ("", u64::from(at_once)),
+        (" at once: ", rate),
+        (
+            " exchanges a second, ",
+            rate.saturating_mul(1_000) / drill.max(1),
+        ),
+    ];
+    Ok(print_line(rt, &numbers, " in a thousand of the drill's events")?)
 }
 
 /// The exchanges alone, so many, for a profile.
@@ -103,9 +113,10 @@ pub fn alone(
     at_once: u32,
 ) -> anyhow::Result<()> {
     let nanos = once(rt, count, at_once)?;
-    println!(rt;
-        "{count} exchanges, {at_once} at once: {} ns each",
-        nanos / u64::from(count.max(1))
-    )?;
-    Ok(())
+    let numbers = [
+        ("", u64::from(count)),
+        (" exchanges, ", u64::from(at_once)),
+        (" at once: ", nanos / u64::from(count.max(1))),
+    ];
+    Ok(print_line(rt, &numbers, " ns each")?)
 }

@@ -1,5 +1,6 @@
 // Lines of a journal, beside a plain copy of their octets.
 use crate::bench::stopwatch::CpuStopwatch;
+use crate::said::print_line;
 use anyhow::anyhow;
 use io_ports::MemSink;
 use std::time::CpuClock;
@@ -25,13 +26,14 @@ fn of_len<R: Print + AllocGlobal + CpuClock>(rt: &R, len: usize) -> anyhow::Resu
     report(rt, len, &best)
 }
 
-fn report<R: Print>(rt: &R, len: usize, best: &Best) -> anyhow::Result<()> {
-    let Best { lines, copies } = best;
-    let percent = copies.saturating_mul(100) / (*lines).max(1);
-    println!(rt;
-        "lines of {len} octets: {lines} ns a round, a plain copy {copies} ns: {percent} percent of its rate"
-    )?;
-    Ok(())
+fn report<R: Print + AllocGlobal>(rt: &R, len: usize, best: &Best) -> anyhow::Result<()> {
+    let numbers = [
+        ("lines of ", len as u64),
+        (" octets: ", best.lines),
+        (" ns a round, a plain copy ", best.copies),
+        (" ns: ", best.copies.saturating_mul(100) / best.lines.max(1)),
+    ];
+    Ok(print_line(rt, &numbers, " percent of its rate")?)
 }
 
 /// The nanoseconds of the best round of lines, and of the best of plain copies.

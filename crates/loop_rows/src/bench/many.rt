@@ -2,6 +2,7 @@
 use crate::bench::gets::{CONFIG, Route, exchanges};
 use crate::bench::peers::{Peers, client_and_cluster};
 use crate::bench::rig::Rig;
+use crate::said::print_line;
 use io_ports::NoMemory;
 use std::alloc::Global;
 
@@ -11,8 +12,11 @@ const CLUSTER: u32 = 1;
 /// So many connections come and go, and so many thousands of exchanges.
 pub fn run(rt: &(impl AllocGlobal + Print), conns: u32, thousands: u32) -> anyhow::Result<()> {
     play(rt.alloc(), conns, thousands)?;
-    println!(rt; "{conns} connections and {thousands} thousand exchanges came and went")?;
-    Ok(())
+    let numbers = [
+        ("", u64::from(conns)),
+        (" connections and ", u64::from(thousands)),
+    ];
+    Ok(print_line(rt, &numbers, " thousand exchanges came and went")?)
 }
 
 fn play(alloc: Global, conns: u32, thousands: u32) -> anyhow::Result<()> {

@@ -10,6 +10,7 @@ use crate::bench::peers::Peers;
 use crate::bench::rig::{cost_behind, no_memory};
 use crate::bench::stage::Stage;
 use crate::bench::stopwatch::CpuStopwatch;
+use crate::said::print_line;
 use anyhow::{anyhow, ensure};
 use flow_notes::Names;
 use io_ports::NoMemory;
@@ -126,12 +127,19 @@ fn measure<R: AllocGlobal + Wait + CpuClock>(
     Ok(turn? / u64::from(TURNS))
 }
 
-fn print_nanos<R: Print>(rt: &R, clients: u32, turn: u64, tick: u64) -> anyhow::Result<()> {
-    let beside = turn.saturating_sub(tick);
-    println!(rt;
-        "{clients} clients: a turn {turn} ns, its dispatch alone {tick} ns, beside it {beside} ns"
-    )?;
-    Ok(())
+fn print_nanos<R: Print + AllocGlobal>(
+    rt: &R,
+    clients: u32,
+    turn: u64,
+    tick: u64,
+) -> anyhow::Result<()> {
+    let numbers = [
+        ("", u64::from(clients)),
+        (" clients: a turn ", turn),
+        (" ns, its dispatch alone ", tick),
+        (" ns, beside it ", turn.saturating_sub(tick)),
+    ];
+    Ok(print_line(rt, &numbers, " ns")?)
 }
 
 // The clients come, and then turns are measured: the nanoseconds of the best round.

@@ -69,4 +69,4 @@ returns-clause-late c =
     (late_counts k.config.limits t c.args.exchange c.args.cause h k.conns k.flows c.doom-doomed.new.self c.doom-doomed.ensures.dooms c.doom-doomed.ensures.writes c.doom-doomed.ensures.lows c.doom-doomed.ensures.live c.doom-doomed.ensures.sound counts) s (stand h s) counts)
 
 pub returns-in_default-clause-late : goal.returns-in_default-clause-late
-returns-in_default-clause-late c = ends_none c.args.exchange c.args.core.now (sym (c.requires.sound.live c.args.exchange) ∙ ap is_some (sym c.in_default.is))
+returns-in_default-clause-late c = ends_none c.args.exchange c.args.core.now (sym (c.requires.sound.live c.args.exchange) ∙ ap is_some (sym c.in_default.ensures))

@@ -1,9 +1,12 @@
-use Rattle.std.proofs.Common.{subst, sym, ◌∙◌, ◌∷◌}
+use Rattle.std.proofs.Common.{ap, subst, sym, ◌∙◌, ◌∷◌}
+use Rattle.std.specs.Option.{option_map_or}
 use Rattle.std.specs.Prelude.{not}
 use Rattle.h2_frames.specs.View.{view}
+use Rattle.h2_session.specs.Acts.{act_within}
 use Rattle.h2_session.specs.Errors.{after}
 use Rattle.h2_session.specs.Happened.{Came}
 use Rattle.h2_session.specs.Summary.{StandsFor, Summary, uses_idle_in}
+use Rattle.h2_session.specs.declared.act.Act.TheVariants as act
 use Rattle.h2_session.specs.contracts.session.Session.{the_view}
 use Rattle.h2_session.proofs.Errors.{not_broken}
 use Rattle.h2_session.proofs.Accepts.{error_as, failed_stands, failed_with, took_stands}
@@ -16,6 +19,13 @@ returns-in-Some-clause-stands c = λ past h.
     let frame = view c.args.frame.now in
     let is = sym (error_as past v frame h) ∙ sym c.error.ensures ∙ c.in-Some.is in
     subst (λ (x : Summary). StandsFor (after v.side frame past) (failed_with c.in-Some.code x)) (sym c.self.view_is) (failed_stands past v frame c.in-Some.code h is)
+
+pub returns-clause-act : goal.returns-clause-act
+returns-clause-act c = λ past h.
+    let v : Summary = c.args.self.now in
+    let frame = view c.args.frame.now in
+    let none = sym (error_as past v frame h) ∙ sym c.error.ensures ∙ c.in_default.is in
+    (c.in_ok-act.ensures.takes past h none).act ∙ sym (ap (λ o. option_map_or (λ code. act.ConnError code) o (act_within v.side frame past)) none)
 
 pub returns-clause-stands : goal.returns-clause-stands
 returns-clause-stands c = λ past h.
