@@ -15,7 +15,7 @@ use Rattle.session_run.specs.declared.player.Went.{Went}
 use Rattle.shed_points.specs.Shedders.{ShedderIs}
 use Rattle.shed_run.specs.Played.{CanTake, HappensAs, PlayIs, Played, PlaysEvent, RefusesLine, TakesEvent, shed_kind}
 use Rattle.shed_run.specs.ShedLines.{IsShedSeen, SpellsOwn, is_own}
-use Rattle.shed_run.specs.ShedTapes.{lines_of, notes_with, text_with}
+use Rattle.shed_run.specs.ShedText.{lines_of, notes_with, text_with}
 use Rattle.shed_run.specs.declared.play.ShedPlay.{ShedPlay}
 use Rattle.std.proofs.Common.{ap, append-nil, inl, inr, refl, subst, sym, ◌∙◌}
 use Rattle.std.specs.Prelude.{Bool, Err, List, Ok, Result, [], false, suc, true, ℕ, ◌++◌, ◌∷◌, ◌≡◌, ◌⊎◌}

@@ -13,7 +13,7 @@ use Rattle.shed_run.proofs.Listing.{elsewhere}
 use Rattle.shed_run.proofs.Texts.{dispatch_text, line_text, turns_are}
 use Rattle.shed_run.specs.Parts.{Lands, MayPlay, Plays, PlaysAs, StandsAt, with_line}
 use Rattle.shed_run.specs.ShedLines.{At, Placed, conn_of, line_told, lines_at}
-use Rattle.shed_run.specs.ShedTapes.{text_with}
+use Rattle.shed_run.specs.ShedText.{text_with}
 use Rattle.std.proofs.Common.{ap, append-nil, append_assoc, arith, length-append, refl, subst, sym, ◌∙◌}
 use Rattle.std.proofs.lemmas.List.{append_cancel_left, length-reverse, reverse-append}
 use Rattle.std.specs.Prelude.{List, Ok, Result, [], length, reverse, ℕ, ◌++◌, ◌+◌, ◌<◌, ◌∷◌, ◌≡◌}
@@ -38,11 +38,13 @@ module _ (old new : WirePlay) (e : Event) (config : Config) (fs : List Event) (l
   added_is : notes_text (names_in config) d.notes ≡ d.added
   added_is = append_cancel_left (tape_text (names_in config) h) (notes_text (names_in config) d.notes) d.added (sym (onto_text (names_in config) d.notes h) ∙ sym (ap (λ (v : History NoMark). tape_text (names_in config) v) d.behind) ∙ d.told)
 
+  dispatched_text : text_with (names_in config) lines (onto d.notes h) ≡ text_with (names_in config) lines h ++ notes_text (names_in config) d.notes
+  dispatched_text =
+      let P : List Note → Type 0 = λ v. text_with (names_in config) lines (onto v h) ≡ text_with (names_in config) lines h ++ notes_text (names_in config) v in
+      subst P (sym d.tells.is) (dispatch_text (names_in config) lines (turns h + 1) e d.tells.added h d.tells.steps (ap (λ (v : List Note). turns (onto v h)) (sym d.tells.is) ∙ (dispatch_adds (turns h + 1) e d.notes h d.tells).turned) (s.none (turns h + 1) (omega arith)))
+
   told : text_with (names_in config) lines d.history ≡ text_with (names_in config) lines h ++ d.added
-  told =
-      ap (λ (v : History NoMark). text_with (names_in config) lines v) d.behind
-      ∙ dispatch_text (names_in config) lines (turns h + 1) e d.notes h d.tells (s.none (turns h + 1) (omega arith))
-      ∙ ap (λ (v : List ℕ). text_with (names_in config) lines h ++ v) added_is
+  told = ap (λ (v : History NoMark). text_with (names_in config) lines v) d.behind ∙ dispatched_text ∙ ap (λ (v : List ℕ). text_with (names_in config) lines h ++ v) added_is
 
   pub lands : Lands config lines h old new (e ∷ fs) lines text_old text_new
   lands = record {

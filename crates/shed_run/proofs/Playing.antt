@@ -24,7 +24,7 @@ use Rattle.shed_run.proofs.Texts.{turns_are}
 use Rattle.shed_run.specs.Parts.{Lands, MayPlay, PlaysAs, StandsAt, with_line}
 use Rattle.shed_run.specs.Played.{CanTake, Happens, HappensAs, PlayIs, Played, PlaysEvent, shed_kind}
 use Rattle.shed_run.specs.ShedLines.{IsShedSeen, Placed, SpellsOwn, is_own, lines_at, shed_lines, shed_seen}
-use Rattle.shed_run.specs.ShedTapes.{text_with}
+use Rattle.shed_run.specs.ShedText.{text_with}
 use Rattle.shed_run.specs.declared.play.ShedPlay.{ShedPlay}
 use Rattle.std.proofs.Common.{ap, append-nil, arith, inl, inr, refl, subst, sym, ◌∙◌}
 use Rattle.std.specs.List.{AllByRecursion}

@@ -11,7 +11,8 @@ use Rattle.session_run.specs.declared.status.Status.{Status}
 use Rattle.shed_points.specs.Shedders.{ShedderIs}
 use Rattle.shed_run.specs.Played.{Played, RefusesLine, can_end, shed_kind}
 use Rattle.shed_run.specs.ShedLines.{SpellsNoShed}
-use Rattle.shed_run.specs.ShedTapes.{RunsShed, TellsShed, TellsShedAs, TellsShedFront, lines_of, text_with}
+use Rattle.shed_run.specs.ShedTapes.{RunsShed, TellsShed, TellsShedAs, TellsShedFront}
+use Rattle.shed_run.specs.ShedText.{lines_of, text_with}
 use Rattle.shed_run.specs.declared.play.ShedPlay.{ShedPlay}
 use Rattle.std.proofs.Common.{ap, refl, subst, sym, ◌∙◌}
 use Rattle.std.specs.Prelude.{Bool, List, None, Ok, Option, [], codes, suc, ℕ, ◌++◌, ◌∷◌, ◌≡◌}

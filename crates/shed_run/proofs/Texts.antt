@@ -2,7 +2,7 @@
 use Rattle.flow_notes.specs.declared.events.Event.{Event}
 use Rattle.flow_notes.specs.declared.notes.Note.{Note}
 use Rattle.shed_run.specs.ShedLines.{At, Placed, ShedLine, lines_at, shed_line}
-use Rattle.shed_run.specs.ShedTapes.{notes_with, text_with}
+use Rattle.shed_run.specs.ShedText.{notes_with, text_with}
 use Rattle.std.proofs.Common.{ap, append-nil, append_assoc, arith, refl, subst, sym, ◌∙◌}
 use Rattle.std.proofs.lemmas.Bool.{eq-eqb, ne_eqb}
 use Rattle.std.specs.List.{AllByRecursion}
@@ -11,9 +11,7 @@ use Rattle.tape_laws.specs.Dispatches.{events_back, turns}
 use Rattle.tape_laws.specs.History.{History, Marked, NoMark, Noted, onto}
 use Rattle.tape_laws.specs.Text.{note_line}
 use Rattle.tape_summary.specs.NotesText.{notes_text}
-use Rattle.wire_run.proofs.Noting.{dispatch_adds}
 use Rattle.wire_state.specs.Noting.{IsStep}
-use Rattle.worker_core.specs.Dispatching.{Tells}
 use Rattle.flow_notes.specs.declared.notes.Note.TheVariants as note
 
 -- ---- dispatches are counted by their events
@@ -65,17 +63,13 @@ module _ (names : List (List ℕ)) where
       steps_text lines ns (Noted n ∷ h) a.1 ∙ ap (λ (v : List ℕ). v ++ notes_text names ns) (step_text lines n h a.0) ∙ append_assoc (notes_with names lines h) (note_line names n) (notes_text names ns)
 
   -- no line stands behind the dispatch yet
-  pub dispatch_text : (lines : List Placed) (k : ℕ) (e : Event) (ns : List Note) (h : History NoMark) → Tells k e [] ns → lines_at (turns h + 1) lines ≡ [] → text_with names lines (onto ns h) ≡ text_with names lines h ++ notes_text names ns
-  dispatch_text lines k e ns h t none =
-      let P : List Note → Type 0 = λ v. text_with names lines (onto v h) ≡ text_with names lines h ++ notes_text names v in
-      subst P (sym t.is) (
-      ap (λ (v : List ℕ). notes_with names lines (onto (note.Turn k e ∷ t.added) h) ++ v) (ap (λ m. lines_at m lines) turned ∙ none)
-      ∙ append-nil (notes_with names lines (onto (note.Turn k e ∷ t.added) h))
-      ∙ steps_text lines t.added (Noted (note.Turn k e) ∷ h) t.steps
-      ∙ append_assoc (text_with names lines h) (note_line names (note.Turn k e)) (notes_text names t.added))
-    where
-      turned : turns (onto (note.Turn k e ∷ t.added) h) ≡ turns h + 1
-      turned = ap (λ (v : List Note). turns (onto v h)) (sym t.is) ∙ (dispatch_adds k e ns h t).turned
+  pub dispatch_text : (lines : List Placed) (k : ℕ) (e : Event) (added : List Note) (h : History NoMark) → AllByRecursion IsStep added → turns (onto (note.Turn k e ∷ added) h) ≡ turns h + 1 → lines_at (turns h + 1) lines ≡ []
+      → text_with names lines (onto (note.Turn k e ∷ added) h) ≡ text_with names lines h ++ notes_text names (note.Turn k e ∷ added)
+  dispatch_text lines k e added h steps turned none =
+      ap (λ (v : List ℕ). notes_with names lines (onto (note.Turn k e ∷ added) h) ++ v) (ap (λ m. lines_at m lines) turned ∙ none)
+      ∙ append-nil (notes_with names lines (onto (note.Turn k e ∷ added) h))
+      ∙ steps_text lines added (Noted (note.Turn k e) ∷ h) steps
+      ∙ append_assoc (text_with names lines h) (note_line names (note.Turn k e)) (notes_text names added)
 
   -- ---- one line more
 

@@ -3,3 +3,4 @@ pub mod Parts
 pub mod Played
 pub mod ShedLines
 pub mod ShedTapes
+pub mod ShedText

@@ -6,7 +6,7 @@ use Rattle.session_lines.specs.WireLines.{Behind}
 use Rattle.session_lines.specs.WireOrder.{MayFollowWireAll}
 use Rattle.shed_points.specs.declared.verdict.Verdict.{Verdict}
 use Rattle.shed_run.specs.ShedLines.{At, Placed, conn_of, lines_at}
-use Rattle.shed_run.specs.ShedTapes.{text_with}
+use Rattle.shed_run.specs.ShedText.{text_with}
 use Rattle.std.specs.Prelude.{List, [], length, reverse, ℕ, ◌++◌, ◌+◌, ◌<◌, ◌∷◌, ◌≡◌}
 use Rattle.tape_laws.specs.Dispatches.{turns}
 use Rattle.tape_laws.specs.History.{History, NoMark}

@@ -11,7 +11,7 @@ use Rattle.session_run.specs.declared.player.Went.{Went}
 use Rattle.shed_points.specs.Shedders.{ShedderIs}
 use Rattle.shed_points.specs.Shedding.{judged}
 use Rattle.shed_run.specs.ShedLines.{IsShedSeen, SpellsNoShed, is_own, shed_seen}
-use Rattle.shed_run.specs.ShedTapes.{lines_of, text_with}
+use Rattle.shed_run.specs.ShedText.{lines_of, text_with}
 use Rattle.shed_run.specs.declared.play.ShedPlay.{ShedPlay}
 use Rattle.std.specs.Prelude.{Bool, Err, List, Ok, Result, false, length, true, ℕ, ◌++◌, ◌∷◌, ◌≡◌}
 use Rattle.tape_laws.specs.History.{History, NoMark}

@@ -1,39 +1,19 @@
 -- What a run tells of a session whose arrivals pass the load shed points: what a run of a wire session tells of the shed list, with a
 -- line for each event that was shed.
 use Rattle.config_tables.specs.Reading.{config_of}
-use Rattle.flow_notes.specs.declared.events.Event.{Event}
 use Rattle.proxy_config.specs.declared.config.Config.{Config}
-use Rattle.proxy_config.specs.declared.overload.ShedRow.{ShedRow}
 use Rattle.session_config.specs.ClusterNames.{names_in, resources_in}
 use Rattle.session_lines.specs.WireLines.{WireSeen, is_headed, wire_events, wire_text}
 use Rattle.session_run.specs.Ending.{EndsAs}
 use Rattle.session_run.specs.declared.status.Status.{Status}
-use Rattle.shed_points.specs.Shedding.{judged}
-use Rattle.shed_run.specs.ShedLines.{IsShedSeen, Placed, SpellsNoShed, lines_at, shed_lines, shed_seen}
+use Rattle.shed_run.specs.ShedLines.{IsShedSeen, SpellsNoShed, shed_seen}
+use Rattle.shed_run.specs.ShedText.{lines_of, text_with}
 use Rattle.std.specs.Io.KnownBytes.{Appends, Consumes}
-use Rattle.std.specs.Prelude.{List, Ok, Option, [], ℕ, ◌++◌, ◌∷◌, ◌≡◌}
-use Rattle.tape_laws.specs.Dispatches.{turns}
-use Rattle.tape_laws.specs.History.{History, Marked, NoMark, Noted}
-use Rattle.tape_laws.specs.Text.{note_line}
+use Rattle.std.specs.Prelude.{List, Ok, Option, ℕ, ◌++◌, ◌≡◌}
+use Rattle.tape_laws.specs.History.{History, NoMark}
 use Rattle.wire_run.specs.Tapes.{WireTape, last_wire_text}
 use Rattle.wire_state.specs.Marks.{row_in}
-use Rattle.flow_notes.specs.declared.notes.Note.TheVariants as note
 use Rattle.session_run.specs.declared.status.Status.TheVariants as status
-
--- the notes, with the lines behind whole dispatches but not those behind the last
-abbrev pub notes_with : List (List ℕ) → List Placed → History NoMark → List ℕ
-notes_with names lines [] = []
-notes_with names lines (Noted (note.Turn k e) ∷ past) = (notes_with names lines past ++ lines_at (turns past) lines) ++ note_line names (note.Turn k e)
-notes_with names lines (Noted n ∷ past) = notes_with names lines past ++ note_line names n
-notes_with names lines (Marked m ∷ past) = notes_with names lines past
-
--- the text of a tape with these lines, each at its place
-abbrev pub text_with : List (List ℕ) → List Placed → History NoMark → List ℕ
-text_with names lines h = notes_with names lines h ++ lines_at (turns h) lines
-
--- the lines of what these events come to
-abbrev pub lines_of : List ShedRow → List Event → List Placed
-lines_of rows es = shed_lines (judged rows es)
 
 -- As a run of a wire session tells (`TellsWire`), but the tape is that of the shed list of the lines' events, and each event that is shed
 -- has its line. No post of a session is one of those that stand for drains that were shed.
