@@ -9,7 +9,7 @@ use Rattle.session_config.specs.ClusterNames.{names_in, resources_in}
 use Rattle.session_lines.specs.WireLines.{Behind, NoLine, ReadsWireLine, SpellsWire, WireEvent, WireHeader, WireItem, WireLinesAre, WireSeen, wire_events, wire_more, wire_read, wire_text}
 use Rattle.session_lines.specs.declared.order.LineRead.{LineRead}
 use Rattle.session_lines.specs.declared.wire_lines.WireLines.{WireLines}
-use Rattle.session_run.specs.Players.{IsPlaying, PlayedAs, PlaysLine}
+use Rattle.session_run.specs.Players.{AddsSummary, IsPlaying, PlayedAs, PlaysLine}
 use Rattle.session_run.specs.Runs.{Begins}
 use Rattle.session_run.specs.declared.player.Went.{Went}
 use Rattle.shed_points.specs.Shedders.{ShedderIs}
@@ -18,7 +18,7 @@ use Rattle.shed_run.specs.ShedLines.{IsShedSeen, SpellsOwn, is_own}
 use Rattle.shed_run.specs.ShedText.{lines_of, notes_with, text_with}
 use Rattle.shed_run.specs.declared.play.ShedPlay.{ShedPlay}
 use Rattle.std.proofs.Common.{ap, append-nil, inl, inr, refl, subst, sym, ◌∙◌}
-use Rattle.std.specs.Prelude.{Bool, Err, List, Ok, Result, [], false, suc, true, ℕ, ◌++◌, ◌∷◌, ◌≡◌, ◌⊎◌}
+use Rattle.std.specs.Prelude.{Bool, Err, List, Ok, OnOk, Result, [], false, suc, true, ℕ, ◌++◌, ◌∷◌, ◌≡◌, ◌⊎◌}
 use Rattle.tape_laws.specs.History.{History, Marked, NoMark, Noted}
 use Rattle.tape_laws.specs.Text.{note_line, tape_text}
 use Rattle.tape_laws.specs.declared.PlainLimits.{PlainLimits}
@@ -87,6 +87,12 @@ limits_refused old new line lines limits text_old text_new r same = record { goe
     other : (item : WireItem) → read.Limits limits ≡ wire_read item → ⊥
     other WireHeader e = cc
     other (WireEvent e) q = cc
+
+-- it is either
+pub none_played : (old new : ShedPlay) (line : List ℕ) (lines : WireLines) (found : LineRead) (text_old text_new : List ℕ) → ((limits : PlainLimits) × (found ≡ read.Limits limits)) ⊎ (found ≡ read.Refused) → ReadsWireLine old.play.lines line lines (Ok found)
+    → text_new ≡ text_old → PlaysLine shed_kind old line text_old new text_new (Ok went.Refused)
+none_played old new line lines found text_old text_new (inl p) r same = limits_refused old new line lines p.0 text_old text_new (read_as old.play.lines lines line found (read.Limits p.0) p.1 r) same
+none_played old new line lines found text_old text_new (inr p) r same = line_refused old new line lines text_old text_new (read_as old.play.lines lines line found read.Refused p r) same
 
 -- the line was read as the event that it spells
 spelled : (names : List (List ℕ)) (resources : ℕ) (seen : WireSeen) (line : List ℕ) (item : WireItem) (e : Event) → SpellsWire names resources seen line item → read.Event e ≡ wire_read item → SpellsWire names resources seen line (WireEvent e)
@@ -239,3 +245,9 @@ play_begins play config begins shedder events text configured = record {
 
     first : k.seen ≡ NoLine
     first = no_line_yet (names_in k.config) k.seen k.lines_are
+
+-- ---- the summary
+
+pub play_summed : (play : ShedPlay) (old new : List ℕ) (r : Result (Unit {0}) NoMemory) → OnOk r (AddsSummary wire_kind play.play old new) → OnOk r (AddsSummary shed_kind play old new)
+play_summed play old new (Ok x) s = record { added = s.added; text = s.text; sums = s.sums }
+play_summed play old new (Err x) s = tt

@@ -227,7 +227,7 @@ same_config : {E : Type 0} (c d : Config) (r : Result Config E) → r ≡ Ok c �
 same_config c d r e f = let k : Ok c ≡ Ok d = sym e ∙ f in cc
 
 -- the configuration of the session is the one that its octets spell
-pub as_configured : (config : Config) (config_text text : List ℕ) (k : Config) → config_of config_text ≡ Ok config → config_of config_text ≡ Ok k → IsAllowedWire config text → IsAllowedWire k text
+as_configured : (config : Config) (config_text text : List ℕ) (k : Config) → config_of config_text ≡ Ok config → config_of config_text ≡ Ok k → IsAllowedWire config text → IsAllowedWire k text
 as_configured config config_text text k e f a = let P : Config → Type 0 = λ v. IsAllowedWire v text in subst P (same_config config k (config_of config_text) e f) a
 
 completed : (how : Status) (config : Config) (config_text text : List ℕ) (left_new out_old out_new : Option (List ℕ)) → config_of config_text ≡ Ok config → (how ≡ status.Usage → ⊥) → (how ≡ status.Config → ⊥)
