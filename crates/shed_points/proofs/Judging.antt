@@ -333,3 +333,10 @@ module _ (old mid new : Shedder) (version : ℕ) (pressures : List ℕ) (v : Ver
         let Few : ℕ → Type 0 = λ n. n < 2 ^ 63 in
         (told_drain rows js i, subst N (sym (told_drain rows js i)) (drain_numbered (x_drain rows js i) (grows (s_drain rows js i) (x_drain rows js i)) (shed_at point.Drain js) (subst Few i.posts_are few)), after_drain rows js i);
   }
+
+-- the posts, by whether one is made
+pub post_not_made : (mid : Shedder) (b found : Bool) → found ≡ b → found ≡ false → mid.posts ≡ (if b then mid.posts + 1 else mid.posts)
+post_not_made mid b found is isnt = ap (λ t. if t then mid.posts + 1 else mid.posts) (sym (sym is ∙ isnt))
+
+pub post_made : (mid : Shedder) (b found : Bool) → found ≡ b → found ≡ true → mid.posts + 1 ≡ (if b then mid.posts + 1 else mid.posts)
+post_made mid b found is shed = ap (λ t. if t then mid.posts + 1 else mid.posts) (sym (sym is ∙ shed))

@@ -9,7 +9,7 @@ use Rattle.shed_points.specs.Shedding.{is_same, point_state, row_state, state_af
 use Rattle.std.proofs.Common.{Bool, ap, arith, false, refl, true, ℕ, ◌*◌, ◌-◌, ◌/◌, ◌∙◌, ◌≡◌, ◌≤◌}
 use Rattle.std.proofs.lemmas.Bool.{leb-false}
 use Rattle.std.proofs.lemmas.Nat.{div_below}
-use Rattle.std.specs.Prelude.{List, [], cond, filter, if◌then◌else◌, map, max, nat_le, slice_index, ◌∷◌}
+use Rattle.std.specs.Prelude.{List, [], cond, filter, if◌then◌else◌, length, map, max, nat_le, slice_index, ◌∷◌}
 use Rattle.flow_notes.specs.declared.events.Event.TheVariants as event
 use Rattle.proxy_config.specs.declared.overload.Form.TheVariants as form
 
@@ -33,10 +33,9 @@ row_taken r rest after ps p most state new whole is same greater before =
     let k = ap (λ (l : List ShedRow). point_state l ps p) is ∙ row_more r after ps p in
     omega (arith, k, same, greater, before)
 
-pub no_row_left : (rest : List ShedRow) (ps : List ℕ) (p : Point) (most whole : ℕ) → rest ≡ [] → max most (point_state rest ps p) ≡ whole → most ≡ whole
-no_row_left rest ps p most whole is before =
-    let k = ap (λ (l : List ShedRow). point_state l ps p) is ∙ no_rows ps p in
-    omega (arith, k, before)
+pub no_row_left : (rest : List ShedRow) (ps : List ℕ) (p : Point) (most whole : ℕ) → length rest ≡ 0 → max most (point_state rest ps p) ≡ whole → most ≡ whole
+no_row_left [] ps p most whole none before = let k = no_rows ps p in omega (arith, k, before)
+no_row_left (r ∷ rest) ps p most whole none before = absurd (omega (arith, none))
 
 -- ---- no state is above the whole
 
