@@ -293,10 +293,12 @@ def client_goes_away(args, server):
 def cluster_goes_and_comes(args, server):
     """In the middle of an answer; a client is told at once, and is served once the cluster is back."""
     with proxied(args, server, journal=False) as proxy:
-        client = subprocess.Popen(['curl', '-sS', '--http2-prior-knowledge', '--limit-rate', '8M', '-o', '/dev/null', f'{proxy.url}/big'], stderr=subprocess.PIPE)
+        client = subprocess.Popen(['curl', '-sS', '--http2-prior-knowledge', '--limit-rate', '8M', '-o', '/dev/null', '-w', '%{http_code}', f'{proxy.url}/big'], stdout=subprocess.PIPE, stderr=subprocess.PIPE)
         time.sleep(1)
         server.stop()
-        assert client.wait(10) != 0, 'half an answer counts as whole'
+        # a server that had answered nothing by then has the proxy's own answer in its stead
+        said = client.communicate(timeout=10)[0]
+        assert client.returncode != 0 or said == b'503', 'half an answer counts as whole'
         code, said, body, err = curl(f'{proxy.url}/one', timeout=5)
         assert (code, said) == (0, '503 2'), (code, said, err)
         server.start()

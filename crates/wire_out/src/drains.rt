@@ -262,7 +262,7 @@ pub(crate) fn note_risen(
     notes: &mut Notes,
 ) -> Result<(), NoMemory>
     ensures notes { Appends notes.old notes.new }
-    ensures octets { Pays result (risen_of rose conn (watchers_on conn core.now.flows)) notes.old notes.new }
+    ensures octets { Pays result (risen_of rose conn (watchers_on conn core.entry.now.flows)) notes.old notes.new }
 {
     if rose {
         return note_pauses(&core.flows, conn, notes);

@@ -265,6 +265,7 @@ stands_on old new l e notes h d new_one s =
     let t = d.octets.goes k (λ c. gone world_setup c k) s.stands (λ c. refl) fresh in
     let same : new.core.config ≡ l = t.under ∙ s.under in
     let turn = turned t.steps k (old.turn + 1) e d.notes.added (sym t.is ∙ d.notes.is) d.notes.steps in
+    let rests : Rests new.core.config.limits new.core.conns new.core.flows new.core.links (after t.steps k) = record { stands = t.stands; counts = t.counts } in
     let tied : AreWays l (after t.steps k) = subst (λ (v : Config). AreWays v k → AreWays v (after t.steps k)) same t.ways s.world.ways in
     record {
       rows = λ table a b c stages p logs was. rows_on l t.steps k s.world.ways tied table (row_told new) a b c stages
@@ -276,12 +277,12 @@ stands_on old new l e notes h d new_one s =
           marked = after t.steps k;
           notes = same_notes t.steps k notes h t.is s.world.notes;
           ways = tied;
-          promises = subst (λ (v : Config). Headline (tape_setup v.limits) (after t.steps k)) same (rests_headline new.core.conns new.core.flows new.core.links (after t.steps k) t.stands);
+          promises = subst (λ (v : Config). Headline (tape_setup v.limits) (after t.steps k)) same (rests_headline new.core.conns new.core.flows new.core.links (after t.steps k) rests);
           left = turn.each s.world.left s.world.last;
           last = λ c. t.left c ∙ left_by e old.core.conns (λ x. gone world_setup x k) c
               ∙ leaves_as c (gone world_setup c k) (gone world_setup c (before_dispatch (after t.steps k))) (octets_of c old.core.conns) (out world_setup c (before_dispatch (after t.steps k)))
               (Some e) (this_event (after t.steps k)) (turn.left_is c) (turn.waits_is c ∙ sym (s.stands.stands.writes c)) turn.event_is;
         };
-        stands = t.stands;
+        stands = rests;
       };
     }

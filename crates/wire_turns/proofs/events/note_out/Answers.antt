@@ -1,4 +1,4 @@
-use Rattle.wire_state.proofs.Idle.{nothing_paid}
+use Rattle.wire_state.proofs.Idle.{owed_none}
 use Rattle.flow_notes.specs.declared.notes.Note.{Note}
 use Rattle.flow_notes.specs.declared.notes.Note.TheVariants as note
 use Rattle.std.proofs.Common.{ap, arith, refl, subst, sym, ◌∙◌}
@@ -10,7 +10,7 @@ use Rattle.wire_state.proofs.Goings.{told_at}
 use Rattle.wire_state.specs.Worlds.{Pays, outs_of}
 
 pub returns-then-n-eq0-clause-octets : goal.returns-then-n-eq0-clause-octets
-returns-then-n-eq0-clause-octets c = subst (λ (j : ℕ). Pays _ (outs_of c.args.conn j) c.args.notes.now c.args.notes.now) (sym c.if-n-eq0.true) (nothing_paid c.args.notes.now)
+returns-then-n-eq0-clause-octets c = owed_none (outs_of c.args.conn c.args.n) c.args.notes.now (ap (λ (j : ℕ). outs_of c.args.conn j) c.if-n-eq0.true)
 
 pub returns-clause-octets : goal.returns-clause-octets
 returns-clause-octets c =
