@@ -1,5 +1,6 @@
 -- Events that are played behind those of a tape, and the line between them.
 use Rattle.flow_notes.specs.Event.{IsEvent}
+use Rattle.flow_notes.specs.Extends.{Extends}
 use Rattle.flow_notes.specs.declared.events.Event.{Event}
 use Rattle.flow_notes.specs.declared.notes.Note.{Note}
 use Rattle.io_ports.specs.declared.octets.NoMemory.{NoMemory}
@@ -16,7 +17,7 @@ use Rattle.shed_run.specs.ShedLines.{At, Placed, conn_of, line_told, lines_at}
 use Rattle.shed_run.specs.ShedText.{text_with}
 use Rattle.std.proofs.Common.{ap, append-nil, append_assoc, arith, length-append, refl, subst, sym, ◌∙◌}
 use Rattle.std.proofs.lemmas.List.{append_cancel_left, length-reverse, reverse-append}
-use Rattle.std.specs.Prelude.{List, Ok, Result, [], length, reverse, ℕ, ◌++◌, ◌+◌, ◌<◌, ◌∷◌, ◌≡◌}
+use Rattle.std.specs.Prelude.{Err, List, Ok, Result, [], length, reverse, ℕ, ◌++◌, ◌+◌, ◌<◌, ◌∷◌, ◌≡◌}
 use Rattle.tape_laws.specs.Dispatches.{events_back, turns}
 use Rattle.tape_laws.specs.History.{History, NoMark, onto}
 use Rattle.tape_laws.specs.Text.{tape_text}
@@ -25,6 +26,7 @@ use Rattle.wire_run.proofs.Noting.{dispatch_adds, onto_text}
 use Rattle.wire_run.proofs.Standing.{new_to}
 use Rattle.wire_run.specs.Played.{Dispatched, DispatchedAs, PlaysEvent}
 use Rattle.wire_run.specs.declared.play.WirePlay.{WirePlay}
+use Rattle.wire_state.specs.Sound.{IsSound}
 use Rattle.session_run.specs.declared.player.Went.TheVariants as went
 use Rattle.shed_points.specs.declared.verdict.Verdict.TheVariants as verdict
 
@@ -71,6 +73,18 @@ pub none_played : (old : WirePlay) (text : List ℕ) → Plays old [] text old t
 none_played old text = record {
   goes = λ config fs lines h named s may. record { history = h; added = []; stands = s; told = sym (append-nil (text_with (names_in config) lines h)); text = sym (append-nil text); lines_stay = refl };
 }
+
+-- nothing of it was played where memory was refused
+pub none_told : (old new : WirePlay) (e : Event) (text_old text_new : List ℕ) (x : NoMemory) → MayPlay old (e ∷ []) → PlaysEvent old e text_old new text_new (Err x) → text_new ≡ text_old
+none_told old new e text_old text_new x m p = p.goes m.config m.history m.named (new_to (resources_in m.config) e m.fs m.history m.may.0.2 m.stands.tape.shown) m.stands.rests
+
+-- what was played stands behind the text
+pub plays_extend : (old new : WirePlay) (es : List Event) (text_old text_new : List ℕ) → MayPlay old es → Plays old es text_old new text_new → Extends text_old text_new
+plays_extend old new es text_old text_new m p = let a = p.goes m.config m.fs [] m.history m.named m.stands m.may in record { added = a.added; is = a.text }
+
+-- the core that plays it is sound
+pub is_sound : (play : WirePlay) (es : List Event) → MayPlay play es → IsSound play.session.core
+is_sound play es m = m.stands.rests.sound
 
 -- the event is in its range
 pub in_range : (play : WirePlay) (e : Event) → MayPlay play (e ∷ []) → IsEvent play.lines.names e
