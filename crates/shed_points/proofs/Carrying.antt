@@ -9,7 +9,7 @@ use Rattle.shed_points.specs.Shedding.{Judged, shed_at, verdict_of}
 use Rattle.shed_points.specs.declared.shedder.Shedder.{Shedder}
 use Rattle.shed_points.specs.declared.verdict.Verdict.{Verdict}
 use Rattle.std.proofs.Common.{ap, inl, inr, refl, subst, sym, ◌∙◌}
-use Rattle.std.specs.Prelude.{Err, List, Ok, Option, Result, [], false, if◌then◌else◌, true, ℕ, ◌++◌, ◌∷◌, ◌≡◌, ◌⊎◌}
+use Rattle.std.specs.Prelude.{Err, List, Ok, Option, Result, [], false, if◌then◌else◌, true, ℕ, ◌++◌, ◌∷◌, ◌≡◌}
 use Rattle.worker_core.specs.Sessions.{BreaksOff, CarriesOut, MayTake, RestsWire}
 use Rattle.worker_core.specs.declared.worker.Kind.{Kind}
 use Rattle.proxy_config.specs.declared.overload.Point.TheVariants as point

@@ -4,7 +4,7 @@ use Rattle.proxy_config.specs.declared.overload.Point.{Point}
 use Rattle.proxy_config.specs.declared.overload.ShedRow.{ShedRow}
 use Rattle.shed_points.proofs.States.{state_bounded}
 use Rattle.shed_points.proofs.Sums.{wholes}
-use Rattle.shed_points.specs.Shedding.{Became, Judged, arrives_at, events_of, grows, is_point, is_same, is_shed, is_silent, judged, read_point, share_of, shed_at, standing_of, state_after, sum_at, verdict_at, verdict_of}
+use Rattle.shed_points.specs.Shedding.{Became, Judged, arrives_at, events_of, grows, is_point, is_same, is_shed, is_silent, judged, read_point, share_of, shed_at, standing_of, state_after, sum_at, verdict_at}
 use Rattle.shed_points.specs.declared.shedder.Standing.{Standing}
 use Rattle.std.proofs.Common.{ap, refl, sym, ◌∙◌}
 use Rattle.std.specs.Prelude.{Bool, List, None, Option, Some, [], false, if◌then◌else◌, true, ℕ, ◌+◌, ◌/◌, ◌∷◌, ◌≡◌}

@@ -7,7 +7,7 @@ use Rattle.shed_points.specs.Shedders.{ShedderIs}
 use Rattle.shed_points.specs.Shedding.{Became, Judged, shed_at, verdict_of}
 use Rattle.shed_points.specs.declared.shedder.Shedder.{Shedder}
 use Rattle.shed_points.specs.declared.verdict.Verdict.{Verdict}
-use Rattle.std.specs.Prelude.{Err, List, Ok, Result, [], ℕ, ◌∷◌, ◌≡◌, ◌⊎◌}
+use Rattle.std.specs.Prelude.{Err, List, Ok, Result, [], ◌∷◌, ◌≡◌, ◌⊎◌}
 use Rattle.worker_core.specs.Sessions.{BreaksOff, CarriesOut}
 use Rattle.worker_core.specs.declared.worker.Kind.{Kind}
 use Rattle.proxy_config.specs.declared.overload.Point.TheVariants as point

@@ -3,7 +3,7 @@ use Rattle.flow_notes.specs.declared.events.Event.{Event}
 use Rattle.flow_notes.specs.declared.events.Job.{Job}
 use Rattle.flow_notes.specs.declared.events.PlainEvent.{PlainEvent}
 use Rattle.proxy_config.specs.declared.overload.ShedRow.{ShedRow}
-use Rattle.session_lines.specs.WireOrder.{MayFollowWire, MayFollowWireAll, gone, is_there, may_follow_wire, named, obeyed, posts_of}
+use Rattle.session_lines.specs.WireOrder.{MayFollowWire, MayFollowWireAll, gone, is_there, named, obeyed, posts_of}
 use Rattle.shed_points.specs.ShedList.{dispatched, instead, keeps, kept, shed_poster}
 use Rattle.shed_points.specs.Shedders.{IsNumbered}
 use Rattle.shed_points.specs.Shedding.{Became, Judged, events_of, grows, is_shed, is_silent, judged, point_state, read_point, shed_at, standing_of, state_after, sum_at, verdict_at, verdict_of}

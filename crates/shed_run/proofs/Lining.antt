@@ -1,7 +1,6 @@
 -- The lines of a session, one after another.
 use Rattle.config_tables.specs.Reading.{config_of}
 use Rattle.flow_notes.specs.Line.{newline}
-use Rattle.flow_notes.specs.Name.{AreNames}
 use Rattle.flow_notes.specs.declared.events.Event.{Event}
 use Rattle.io_ports.specs.declared.octets.NoMemory.{NoMemory}
 use Rattle.proxy_config.specs.declared.config.Config.{Config}
@@ -13,8 +12,8 @@ use Rattle.session_run.specs.Players.{AddsSummary, IsPlaying, PlayedAs, PlaysLin
 use Rattle.session_run.specs.Runs.{Begins}
 use Rattle.session_run.specs.declared.player.Went.{Went}
 use Rattle.shed_points.specs.Shedders.{ShedderIs}
-use Rattle.shed_run.specs.Played.{CanTake, HappensAs, PlayIs, Played, PlaysEvent, RefusesLine, TakesEvent, shed_kind}
-use Rattle.shed_run.specs.ShedLines.{IsShedSeen, SpellsOwn, is_own}
+use Rattle.shed_run.specs.Played.{CanTake, HappensAs, PlayIs, Played, PlaysEvent, TakesEvent, shed_kind}
+use Rattle.shed_run.specs.ShedLines.{IsShedSeen, is_own}
 use Rattle.shed_run.specs.ShedText.{lines_of, notes_with, text_with}
 use Rattle.shed_run.specs.declared.play.ShedPlay.{ShedPlay}
 use Rattle.std.proofs.Common.{ap, append-nil, inl, inr, refl, subst, sym, ◌∙◌}

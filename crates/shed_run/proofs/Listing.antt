@@ -1,6 +1,5 @@
 -- The shed lines of a session's events, and where they stand.
 use Rattle.flow_notes.specs.declared.events.Event.{Event}
-use Rattle.proxy_config.specs.declared.overload.Point.{Point}
 use Rattle.shed_points.specs.ShedList.{as_list, comes_to, dispatched, instead, kept}
 use Rattle.shed_points.specs.Shedding.{Became, Judged, shed_at}
 use Rattle.shed_points.specs.declared.verdict.Verdict.{Verdict}
@@ -8,7 +7,7 @@ use Rattle.shed_run.specs.ShedLines.{At, Placed, ShedLine, lines_at, shed_line, 
 use Rattle.std.proofs.Common.{ap, arith, length-append, refl, ◌∙◌}
 use Rattle.std.proofs.lemmas.Bool.{ne_eqb}
 use Rattle.std.proofs.lemmas.List.{length-reverse}
-use Rattle.std.specs.Prelude.{Bool, List, Option, [], if◌then◌else◌, length, reverse, ℕ, ◌++◌, ◌+◌, ◌<◌, ◌==◌, ◌∷◌, ◌≡◌, ◌≤◌}
+use Rattle.std.specs.Prelude.{List, [], if◌then◌else◌, length, reverse, ℕ, ◌++◌, ◌+◌, ◌<◌, ◌∷◌, ◌≡◌, ◌≤◌}
 use Rattle.proxy_config.specs.declared.overload.Point.TheVariants as point
 use Rattle.shed_points.specs.declared.verdict.Verdict.TheVariants as verdict
 

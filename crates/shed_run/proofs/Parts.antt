@@ -13,12 +13,12 @@ use Rattle.shed_points.specs.declared.verdict.Verdict.{Verdict}
 use Rattle.shed_run.proofs.Listing.{elsewhere}
 use Rattle.shed_run.proofs.Texts.{dispatch_text, line_text, turns_are}
 use Rattle.shed_run.specs.Parts.{Lands, MayPlay, Plays, PlaysAs, StandsAt, with_line}
-use Rattle.shed_run.specs.ShedLines.{At, Placed, conn_of, line_told, lines_at}
+use Rattle.shed_run.specs.ShedLines.{Placed, conn_of, line_told}
 use Rattle.shed_run.specs.ShedText.{text_with}
 use Rattle.std.proofs.Common.{ap, append-nil, append_assoc, arith, length-append, refl, subst, sym, ◌∙◌}
 use Rattle.std.proofs.lemmas.List.{append_cancel_left, length-reverse, reverse-append}
-use Rattle.std.specs.Prelude.{Err, List, Ok, Result, [], length, reverse, ℕ, ◌++◌, ◌+◌, ◌<◌, ◌∷◌, ◌≡◌}
-use Rattle.tape_laws.specs.Dispatches.{events_back, turns}
+use Rattle.std.specs.Prelude.{Err, List, Ok, [], length, reverse, ℕ, ◌++◌, ◌+◌, ◌∷◌, ◌≡◌}
+use Rattle.tape_laws.specs.Dispatches.{turns}
 use Rattle.tape_laws.specs.History.{History, NoMark, onto}
 use Rattle.tape_laws.specs.Text.{tape_text}
 use Rattle.tape_summary.specs.NotesText.{notes_text}

@@ -1,18 +1,11 @@
 -- Lines that are played.
-use Rattle.config_tables.specs.Reading.{config_of}
-use Rattle.flow_notes.specs.Line.{newline}
 use Rattle.flow_notes.specs.declared.events.Event.{Event}
 use Rattle.io_ports.specs.declared.octets.NoMemory.{NoMemory}
 use Rattle.proxy_config.specs.declared.config.Config.{Config}
 use Rattle.proxy_config.specs.declared.overload.ShedRow.{ShedRow}
 use Rattle.session_config.specs.ClusterNames.{names_in, resources_in}
-use Rattle.session_lines.specs.WireLines.{Behind, IsWireSeen, NoLine, ReadsWireLine, SpellsWire, WireEvent, WireHeader, WireItem, WireLinesAre, WireSeen, wire_events, wire_more, wire_read}
+use Rattle.session_lines.specs.WireLines.{Behind, IsWireSeen, NoLine, WireSeen, wire_events}
 use Rattle.session_lines.specs.WireOrder.{MayFollowWire, MayFollowWireAll}
-use Rattle.session_lines.specs.declared.order.LineRead.{LineRead}
-use Rattle.session_lines.specs.declared.wire_lines.WireLines.{WireLines}
-use Rattle.session_run.specs.Players.{IsPlaying, PlaysLine}
-use Rattle.session_run.specs.Runs.{Begins}
-use Rattle.session_run.specs.declared.player.Went.{Went}
 use Rattle.shed_points.specs.ShedList.{as_list, dispatched, instead, keeps, kept, shed_list}
 use Rattle.shed_points.specs.Shedders.{IsNumbered, Judges, ShedderIs}
 use Rattle.shed_points.specs.Shedding.{Became, Judged, judged, shed_at, verdict_of}
@@ -22,20 +15,18 @@ use Rattle.shed_run.proofs.Following.{Comes, comes, kin_all}
 use Rattle.shed_run.proofs.Listing.{none_behind}
 use Rattle.shed_run.proofs.Texts.{turns_are}
 use Rattle.shed_run.specs.Parts.{Lands, MayPlay, PlaysAs, StandsAt, with_line}
-use Rattle.shed_run.specs.Played.{CanTake, Happens, HappensAs, PlayIs, Played, PlaysEvent, shed_kind}
-use Rattle.shed_run.specs.ShedLines.{IsShedSeen, Placed, SpellsOwn, is_own, lines_at, shed_lines, shed_seen}
+use Rattle.shed_run.specs.Played.{CanTake, Happens, PlayIs, PlaysEvent}
+use Rattle.shed_run.specs.ShedLines.{IsShedSeen, is_own, shed_lines, shed_seen}
 use Rattle.shed_run.specs.ShedText.{text_with}
 use Rattle.shed_run.specs.declared.play.ShedPlay.{ShedPlay}
-use Rattle.std.proofs.Common.{ap, append-nil, arith, inl, inr, refl, subst, sym, ◌∙◌}
+use Rattle.std.proofs.Common.{ap, arith, refl, subst, sym, ◌∙◌}
 use Rattle.std.specs.List.{AllByRecursion}
-use Rattle.std.specs.Prelude.{Bool, Err, List, None, Ok, OnErr, Option, Result, Some, [], false, if◌then◌else◌, length, reverse, suc, true, ℕ, ◌++◌, ◌+◌, ◌<◌, ◌∷◌, ◌≡◌}
+use Rattle.std.specs.Prelude.{Bool, Err, List, None, Ok, Option, Some, [], false, if◌then◌else◌, length, reverse, suc, true, ℕ, ◌++◌, ◌+◌, ◌∷◌, ◌≡◌}
 use Rattle.tape_laws.specs.Dispatches.{turns}
 use Rattle.tape_laws.specs.History.{History, NoMark}
-use Rattle.wire_run.proofs.Playing.{lines_more, read_as, text_more}
 use Rattle.wire_run.specs.Tapes.{WireTape}
 use Rattle.wire_run.specs.declared.play.WirePlay.{WirePlay}
 use Rattle.proxy_config.specs.declared.overload.Point.TheVariants as point
-use Rattle.session_lines.specs.declared.order.LineRead.TheVariants as read
 use Rattle.session_run.specs.declared.player.Went.TheVariants as went
 use Rattle.shed_points.specs.declared.verdict.Verdict.TheVariants as verdict
 

@@ -1,6 +1,5 @@
 -- What a run tells, in terms of its lines and its tape.
 use Rattle.config_tables.specs.Reading.{config_of}
-use Rattle.flow_notes.specs.declared.events.Event.{Event}
 use Rattle.proxy_config.specs.declared.config.Config.{Config}
 use Rattle.session_config.specs.ClusterNames.{names_in, resources_in}
 use Rattle.session_lines.specs.WireLines.{NoLine, WireLinesAre, WireSeen, is_headed, wire_events, wire_text}
@@ -8,7 +7,6 @@ use Rattle.session_run.specs.Ending.{EndsAs}
 use Rattle.session_run.specs.Tells.{IsLast, Replayed, numbered_line}
 use Rattle.session_run.specs.Tells as run
 use Rattle.session_run.specs.declared.status.Status.{Status}
-use Rattle.shed_points.specs.Shedders.{ShedderIs}
 use Rattle.shed_run.specs.Played.{Played, RefusesLine, can_end, shed_kind}
 use Rattle.shed_run.specs.ShedLines.{SpellsNoShed}
 use Rattle.shed_run.specs.ShedTapes.{RunsShed, TellsShed, TellsShedAs, TellsShedFront}

@@ -1,7 +1,7 @@
 // The line of an event that was shed.
 ghost use Rattle.flow_notes.specs.Extends.{Extends};
 ghost use Rattle.shed_run.specs.ShedLines.{conn_of, line_told, point_word, shed_line};
-ghost use Rattle.std.specs.Prelude.{◌≡◌, ◌++◌, ◌∷◌, OnErr, OnOk, codes};
+ghost use Rattle.std.specs.Prelude.{◌≡◌, ◌++◌, OnErr, OnOk, codes};
 
 use flow_notes::Event;
 use io_ports::{NoMemory, Octets};
