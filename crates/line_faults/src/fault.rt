@@ -97,6 +97,8 @@ pub enum Mistake {
     Lost { conn: u32 },
     /// The poster's next post has another number.
     OtherPost { poster: u32, number: u64, next: u64 },
+    /// The posts of this poster are those of the load shed points.
+    OwnPoster { poster: u32 },
     /// The version is not greater than this one.
     OldVersion { version: u64, greatest: u64 },
     /// There are so many resources.

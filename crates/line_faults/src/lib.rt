@@ -12,4 +12,4 @@ mod words;
 pub use courses::explain_plain;
 pub use fault::{Fault, LineFault, Mistake};
 pub use fields::{Field, Kind};
-pub use wire::explain_wire;
+pub use wire::{explain_shed, explain_wire};

@@ -204,6 +204,12 @@ fn write_order<W: Write>(f: &mut fmt::Formatter<W>, mistake: Mistake) -> fmt::Re
             conn,
             " is paused, so nothing may be read of it",
         ),
+        Mistake::OwnPoster { poster } => write_one(
+            f,
+            "the posts of poster ",
+            u64::from(poster),
+            " are those of the load shed points",
+        ),
         _ => write_against(f, mistake),
     }
 }

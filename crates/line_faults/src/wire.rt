@@ -30,6 +30,32 @@ pub fn explain_wire(
     LineFault::new(alloc, line, None, whole(alloc, b"", mistake)?)
 }
 
+/// What is wrong where a session is refused whose arrivals pass the load shed points: there the posts of one poster are their own.
+pub fn explain_shed(
+    alloc: Global,
+    lines: &WireLines,
+    own: u32,
+    line: u32,
+    refused: RefusedLine<'_>,
+) -> Result<LineFault, NoMemory>
+    ensures { IfOk result (λ fault. fault.line ≡ line) }
+{
+    if let RefusedLine::Line(text) = refused {
+        if lines.is_playing() && is_post_of(alloc, lines, own, text)? {
+            let fault = whole(alloc, text, Mistake::OwnPoster { poster: own })?;
+            return LineFault::new(alloc, line, Some(first_word(text)), fault);
+        }
+    }
+    explain_wire(alloc, lines, line, refused)
+}
+
+fn is_post_of(alloc: Global, lines: &WireLines, own: u32, text: &[u8]) -> Result<bool, NoMemory> {
+    match read_event(alloc, text, lines.names(), false)? {
+        Some(Event::Post { poster, .. }) => Ok(poster == own),
+        _ => Ok(false),
+    }
+}
+
 fn line_fault(
     alloc: Global,
     lines: &WireLines,

@@ -4,9 +4,10 @@ pub const VERSION: &str = "h2replay 0.1.0
 ";
 
 pub const USAGE: &str =
-    "usage: h2replay plain | h2replay wire CONFIG | h2replay relay CONFIG | h2replay drill N
+    "usage: h2replay plain | h2replay wire CONFIG | h2replay shed CONFIG | h2replay relay CONFIG | h2replay drill N
   plain         reads a plain session from standard input, and writes its tape and summary
   wire CONFIG   reads the configuration in the file CONFIG, then a session of HTTP/2 connections, and writes the same
+  shed CONFIG   the same, where the load shed points of CONFIG turn a share of what arrives away
   relay CONFIG  reads the configuration in the file CONFIG, then a relay's session, and writes the same
   drill N       runs a session of N streams, 1 to 1000, and writes what it came to
   --help        says more; --version says which program this is
@@ -17,6 +18,8 @@ pub const HELP: &str =
 
   h2replay plain         a session of streams that send into one connection, from standard input
   h2replay wire CONFIG   a session of HTTP/2 connections, from standard input; CONFIG is the file of the configuration
+  h2replay shed CONFIG   the same, where what arrives passes the load shed points of CONFIG; the tape has a line for each event
+                         that was shed
   h2replay relay CONFIG  a session of connections that are paired two and two, each of which is read only while what it
                          brings may wait for the other one; CONFIG is the file of the configuration
   h2replay drill N       a made-up session of N streams, 1 to 1000: what it came to in six lines, without its tape

@@ -3,7 +3,7 @@ use Rattle.io_ports.specs.Faults.{Rose}
 use Rattle.config_tables.specs.Reading.{config_of}
 use Rattle.proxy_config.specs.declared.config.Config.{Config}
 use Rattle.relay_run.specs.Replays.{ReplaysRelay}
-use Rattle.replay_run.specs.ReplayUnder.{ConfigEnds, ConfigEndsAs, Configured, EndsAtConfig, ReplaysUnder, Unconfigured, WireCompletes, end_status, end_text}
+use Rattle.replay_run.specs.ReplayUnder.{ConfigEnds, ConfigEndsAs, Configured, EndsAtConfig, ReplaysUnder, ShedCompletes, Unconfigured, WireCompletes, end_status, end_text}
 use Rattle.session_config.specs.Loading.{CausesFault, Loads, StopsAs, longest_config}
 use Rattle.session_config.specs.declared.load.ConfigEnd.{ConfigEnd}
 use Rattle.session_run.specs.Ends.{AppendsFront}
@@ -12,6 +12,7 @@ use Rattle.std.proofs.Common.{ap, arith, inl, inr, length-append, refl, subst, s
 use Rattle.std.proofs.lemmas.List.{append-nil}
 use Rattle.std.specs.Io.KnownBytes.{Appends, Consumes, IsAtEnd}
 use Rattle.std.specs.Prelude.{Err, List, None, Ok, Option, Result, Some, [], length, ℕ, ◌++◌, ◌≡◌, ◌≤◌, ◌⊎◌}
+use Rattle.shed_run.specs.Allowed as shed
 use Rattle.wire_run.specs.Allowed.{Completes, IsUnrefused}
 use Rattle.session_config.specs.declared.load.ConfigEnd.TheVariants as end
 use Rattle.session_run.specs.declared.status.Status.TheVariants as status
@@ -152,3 +153,27 @@ wire_unconfigured (Some given) config_new session how r stop e l s = λ config c
     let P : Answer → Type 0 = λ v. Loads (Some given) config_new v in
     let k : Loads (Some given) config_new (Err stop) = subst P e l in
     session_unread config session how (unrefused_end stop given k.text config_new config how k.consumes k.is c short s)
+
+-- ---- a session for the load shed points
+
+pub shed_completed : (config_old config_new session : Option (List ℕ)) (how : Status) (r : Answer) (keys : Config) → r ≡ Ok keys → Loads config_old config_new r
+    → ((text : List ℕ) → config_of text ≡ Ok keys → shed.Completes keys session how) → ShedCompletes config_old session how
+shed_completed None config_new session how r keys e l done = tt
+shed_completed (Some given) config_new session how r keys e l done = λ config c short.
+    let P : Answer → Type 0 = λ v. Loads (Some given) config_new v in
+    let k : Loads (Some given) config_new (Ok keys) = subst P e l in
+    let all = whole_text given k.text config_new k.consumes k.is.0.0 in
+    let Q : Config → Type 0 = λ v. shed.Completes v session how in
+    subst Q (same_answer keys config (sym k.is.1 ∙ sym (ap config_of all) ∙ c)) (done k.text k.is.1)
+
+shed_unread : (config : Config) (session : Option (List ℕ)) (how : Status) → IsUnrefused how → shed.Completes config session how
+shed_unread config None how k = tt
+shed_unread config (Some text) how k = λ a. k
+
+pub shed_unconfigured : (config_old config_new session : Option (List ℕ)) (how : Status) (r : Answer) (stop : ConfigEnd) → r ≡ Err stop → Loads config_old config_new r
+    → (how ≡ end_status stop) ⊎ (how ≡ status.Memory) ⊎ (how ≡ status.WriteFault) → ShedCompletes config_old session how
+shed_unconfigured None config_new session how r stop e l s = tt
+shed_unconfigured (Some given) config_new session how r stop e l s = λ config c short.
+    let P : Answer → Type 0 = λ v. Loads (Some given) config_new v in
+    let k : Loads (Some given) config_new (Err stop) = subst P e l in
+    shed_unread config session how (unrefused_end stop given k.text config_new config how k.consumes k.is c short s)

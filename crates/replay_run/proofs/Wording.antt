@@ -63,6 +63,15 @@ wire_or_drill name number e = let k : 119 ≡ 100 = ap first_octet e in omega (a
 wire_or_relay : (name other : List ℕ) → codes "wire" ∷ name ∷ [] ≡ codes "relay" ∷ other ∷ [] → ⊥
 wire_or_relay name other e = let k : 119 ≡ 114 = ap first_octet e in omega (arith, k)
 
+shed_or_drill : (name number : List ℕ) → codes "shed" ∷ name ∷ [] ≡ codes "drill" ∷ number ∷ [] → ⊥
+shed_or_drill name number e = let k : 115 ≡ 100 = ap first_octet e in omega (arith, k)
+
+shed_or_relay : (name other : List ℕ) → codes "shed" ∷ name ∷ [] ≡ codes "relay" ∷ other ∷ [] → ⊥
+shed_or_relay name other e = let k : 115 ≡ 114 = ap first_octet e in omega (arith, k)
+
+wire_or_shed : (name other : List ℕ) → codes "wire" ∷ name ∷ [] ≡ codes "shed" ∷ other ∷ [] → ⊥
+wire_or_shed name other e = let k : 119 ≡ 115 = ap first_octet e in omega (arith, k)
+
 -- two numbers have the same form
 pub same_form : (words : List (List ℕ)) (f g : Form) → SpellsForm words f → SpellsForm words g → f ≡ g
 same_form words form.Plain form.Plain s t = refl
@@ -74,6 +83,15 @@ same_form words form.Plain form.Wire s t = let i : codes "plain" ∷ [] ≡ code
 same_form words form.Wire form.Plain s t = let i : codes "plain" ∷ [] ≡ codes "wire" ∷ s.is.0 ∷ [] = sym t.is ∙ s.is.1 in cc
 same_form words form.Relay form.Wire s t = absurd (wire_or_relay t.is.0 s.is.0 (sym t.is.1 ∙ s.is.1))
 same_form words form.Wire form.Relay s t = absurd (wire_or_relay s.is.0 t.is.0 (sym s.is.1 ∙ t.is.1))
+same_form words form.Shed form.Shed s t = refl
+same_form words form.Plain form.Shed s t = let i : codes "plain" ∷ [] ≡ codes "shed" ∷ t.is.0 ∷ [] = sym s.is ∙ t.is.1 in cc
+same_form words form.Shed form.Plain s t = let i : codes "plain" ∷ [] ≡ codes "shed" ∷ s.is.0 ∷ [] = sym t.is ∙ s.is.1 in cc
+same_form words form.Wire form.Shed s t = absurd (wire_or_shed s.is.0 t.is.0 (sym s.is.1 ∙ t.is.1))
+same_form words form.Shed form.Wire s t = absurd (wire_or_shed t.is.0 s.is.0 (sym t.is.1 ∙ s.is.1))
+same_form words form.Shed form.Relay s t = absurd (shed_or_relay s.is.0 t.is.0 (sym s.is.1 ∙ t.is.1))
+same_form words form.Relay form.Shed s t = absurd (shed_or_relay t.is.0 s.is.0 (sym t.is.1 ∙ s.is.1))
+same_form words form.Shed (form.Drill n) s t = absurd (shed_or_drill s.is.0 (decimal n) (sym s.is.1 ∙ t.is))
+same_form words (form.Drill n) form.Shed s t = absurd (shed_or_drill t.is.0 (decimal n) (sym t.is.1 ∙ s.is))
 same_form words form.Wire (form.Drill n) s t = absurd (wire_or_drill s.is.0 (decimal n) (sym s.is.1 ∙ t.is))
 same_form words (form.Drill n) form.Wire s t = absurd (wire_or_drill t.is.0 (decimal n) (sym t.is.1 ∙ s.is))
 same_form words form.Relay (form.Drill n) s t = absurd (relay_or_drill s.is.0 (decimal n) (sym s.is.1 ∙ t.is))
@@ -108,7 +126,32 @@ pub wire_told : (words : List (List ℕ)) (left_old left_new out_old out_new : O
 wire_told words left_old left_new out_old out_new how k f s =
     let P : Form → Type 0 = λ v. ReplaysForm v left_old left_new out_old out_new how in subst P (same_form words form.Wire f k s) tt
 
+pub shed_told : (words : List (List ℕ)) (left_old left_new out_old out_new : Option (List ℕ)) (how : Status) → SpellsForm words form.Shed → (f : Form) → SpellsForm words f → ReplaysForm f left_old left_new out_old out_new how
+shed_told words left_old left_new out_old out_new how k f s =
+    let P : Form → Type 0 = λ v. ReplaysForm v left_old left_new out_old out_new how in subst P (same_form words form.Shed f k s) tt
+
 -- ---- words have one form
+pub plain_no_shed : form.Plain ≡ form.Shed → ⊥
+plain_no_shed e = cc
+
+pub drill_no_shed : (n : ℕ) → form.Drill n ≡ form.Shed → ⊥
+drill_no_shed n e = cc
+
+pub wire_no_shed : form.Wire ≡ form.Shed → ⊥
+wire_no_shed e = cc
+
+pub relay_no_shed : form.Relay ≡ form.Shed → ⊥
+relay_no_shed e = cc
+
+pub shed_no_plain : form.Shed ≡ form.Plain → ⊥
+shed_no_plain e = cc
+
+pub shed_no_wire : form.Shed ≡ form.Wire → ⊥
+shed_no_wire e = cc
+
+pub shed_no_relay : form.Shed ≡ form.Relay → ⊥
+shed_no_relay e = cc
+
 pub plain_no_wire : form.Plain ≡ form.Wire → ⊥
 plain_no_wire e = cc
 

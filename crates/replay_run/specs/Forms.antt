@@ -8,6 +8,7 @@ use Rattle.replay_run.specs.declared.form.Form.TheVariants as form
 abbrev pub HasWords : Form → List (List ℕ) → Type 0
 HasWords form.Plain words = words ≡ codes "plain" ∷ []
 HasWords form.Wire words = (name : List ℕ) × (words ≡ codes "wire" ∷ name ∷ [])
+HasWords form.Shed words = (name : List ℕ) × (words ≡ codes "shed" ∷ name ∷ [])
 HasWords form.Relay words = (name : List ℕ) × (words ≡ codes "relay" ∷ name ∷ [])
 HasWords (form.Drill n) words = words ≡ codes "drill" ∷ decimal n ∷ []
 
@@ -15,6 +16,7 @@ HasWords (form.Drill n) words = words ≡ codes "drill" ∷ decimal n ∷ []
 abbrev pub IsForm : Form → Type 0
 IsForm form.Plain = Unit {0}
 IsForm form.Wire = Unit {0}
+IsForm form.Shed = Unit {0}
 IsForm form.Relay = Unit {0}
 IsForm (form.Drill n) = (1 ≤ n) × (n ≤ 1000)
 
@@ -24,7 +26,7 @@ pub record SpellsForm (words : List (List ℕ)) (f : Form) : Type 0 where
 
 -- a configuration is read first
 abbrev pub ReadsConfig : List (List ℕ) → Type 0
-ReadsConfig words = SpellsForm words form.Wire ⊎ SpellsForm words form.Relay
+ReadsConfig words = SpellsForm words form.Wire ⊎ SpellsForm words form.Shed ⊎ SpellsForm words form.Relay
 
 pub record HasNoForm (words : List (List ℕ)) : Type 0 where
   pub none : (f : Form) → SpellsForm words f → ⊥

@@ -10,5 +10,6 @@ use Rattle.replay_run.specs.declared.form.Form.TheVariants as form
 abbrev pub ReplaysForm : Form → (left_old left_new out_old out_new : Option (List ℕ)) → Status → Type 0
 ReplaysForm form.Plain left_old left_new out_old out_new status = Replays left_old left_new out_old out_new status
 ReplaysForm form.Wire left_old left_new out_old out_new status = Unit {0}
+ReplaysForm form.Shed left_old left_new out_old out_new status = Unit {0}
 ReplaysForm form.Relay left_old left_new out_old out_new status = Unit {0}
 ReplaysForm (form.Drill n) left_old left_new out_old out_new status = (left_new ≡ left_old) × DrillsAs n out_old out_new status

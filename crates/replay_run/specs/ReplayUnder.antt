@@ -9,6 +9,7 @@ use Rattle.session_config.specs.declared.load.ConfigEnd.{ConfigEnd}
 use Rattle.session_run.specs.declared.status.Status.{Status}
 use Rattle.std.specs.Io.KnownBytes.{Appends, Consumes}
 use Rattle.std.specs.Prelude.{Err, List, None, Ok, Option, Some, [], codes, length, ℕ, ◌++◌, ◌<◌, ◌≡◌, ◌≤◌}
+use Rattle.shed_run.specs.Allowed as shed
 use Rattle.wire_run.specs.Allowed.{Completes}
 use Rattle.session_config.specs.declared.load.ConfigEnd.TheVariants as end
 use Rattle.session_run.specs.declared.status.Status.TheVariants as status
@@ -76,3 +77,8 @@ pub data ReplaysUnder (Run : List ℕ → Status → Type 0) (config_old config_
 abbrev pub WireCompletes : (config session : Option (List ℕ)) → Status → Type 0
 WireCompletes (Some text) session how = (config : Config) → config_of text ≡ Ok config → length text ≤ longest_config → Completes config session how
 WireCompletes None session how = Unit {0}
+
+-- and so is an allowed session for the load shed points
+abbrev pub ShedCompletes : (config session : Option (List ℕ)) → Status → Type 0
+ShedCompletes (Some text) session how = (config : Config) → config_of text ≡ Ok config → length text ≤ longest_config → shed.Completes config session how
+ShedCompletes None session how = Unit {0}

@@ -15,6 +15,8 @@ pub enum Form {
     Plain,
     /// `wire CONFIG`: a wire session that is read, under a configuration that is read first.
     Wire,
+    /// `shed CONFIG`: the same, where the arrivals pass the load shed points.
+    Shed,
     /// `relay CONFIG`: a relay's session that is read, under a configuration that is read first.
     Relay,
     /// `drill N`: the drill of N streams, 1 to 1,000.
@@ -51,6 +53,9 @@ fn two_word_form(word: &str, name: &str) -> Option<Form>
 {
     if word == "wire" {
         return Some(Form::Wire);
+    }
+    if word == "shed" {
+        return Some(Form::Shed);
     }
     if word == "relay" {
         return Some(Form::Relay);

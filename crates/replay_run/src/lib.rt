@@ -9,6 +9,7 @@ mod play;
 mod reason;
 mod relay;
 mod replaying;
+mod shed;
 mod tally;
 mod text;
 mod wire;

@@ -5,9 +5,10 @@ ghost use Rattle.io_ports.specs.Faults.{Rose};
 ghost use Rattle.replay_run.specs.Allowed.{Completes};
 ghost use Rattle.replay_run.specs.Forms.{HasNoForm, ReadsConfig, SpellsForm};
 ghost use Rattle.relay_run.specs.Replays.{ReplaysRelay};
-ghost use Rattle.replay_run.specs.ReplayUnder.{ReplaysUnder, WireCompletes};
+ghost use Rattle.replay_run.specs.ReplayUnder.{ReplaysUnder, ShedCompletes, WireCompletes};
 ghost use Rattle.replay_run.specs.Replays.{Replays};
 ghost use Rattle.replay_run.specs.ReplayForm.{ReplaysForm};
+ghost use Rattle.shed_run.specs.ShedTapes.{RunsShed};
 ghost use Rattle.wire_run.specs.Tapes.{RunsWire};
 
 use crate::drill_run::replay_drill;
@@ -15,6 +16,7 @@ use crate::form::{Form, read_form};
 use crate::play::Play;
 use crate::reason::{Outcome, Reason};
 use crate::relay::replay_relay;
+use crate::shed::replay_shed;
 use crate::wire::replay_wire;
 use io_ports::{Sink, Source};
 use line_faults::{LineFault, explain_plain};
@@ -22,9 +24,10 @@ use session_run::{Lines, Run, Status};
 use std::alloc::Global;
 
 /// Replays what the words ask for: `plain` reads the session and writes its tape with its summary; `wire CONFIG` and
-/// `relay CONFIG` read the configuration first, and do the same for a session of HTTP/2 connections and for a relay's; `drill N`
-/// reads nothing and writes the short summary of that drill. Other words read and write nothing. `config` is read for `wire` and
-/// `relay` alone.
+/// `relay CONFIG` read the configuration first, and do the same for a session of HTTP/2 connections and for a relay's; `shed CONFIG`
+/// does as `wire CONFIG`, but what arrives passes the load shed points, and each event that is shed has a line in the tape; `drill N`
+/// reads nothing and writes the short summary of that drill. Other words read and write nothing. `config` is read for `wire`, `shed`
+/// and `relay` alone.
 pub fn replay<C: Source, S: Source, K: Sink>(
     alloc: Global,
     words: &[String],
@@ -38,6 +41,8 @@ pub fn replay<C: Source, S: Source, K: Sink>(
     ensures nothing { result ≡ Status.Usage → (session.new ≡ session.old) × (out.new ≡ out.old) }
     ensures wire { SpellsForm (map string_bytes words.now) Form.Wire → ReplaysUnder (λ text status. RunsWire text (S.left session.old) (S.left session.new) (K.contents out.old) (K.contents out.new) status) (C.left config.old) (C.left config.new) (S.left session.old) (S.left session.new) (K.contents out.old) (K.contents out.new) result }
     ensures wire_completes { SpellsForm (map string_bytes words.now) Form.Wire → WireCompletes (C.left config.old) (S.left session.old) result }
+    ensures shed { SpellsForm (map string_bytes words.now) Form.Shed → ReplaysUnder (λ text status. RunsShed text (S.left session.old) (S.left session.new) (K.contents out.old) (K.contents out.new) status) (C.left config.old) (C.left config.new) (S.left session.old) (S.left session.new) (K.contents out.old) (K.contents out.new) result }
+    ensures shed_completes { SpellsForm (map string_bytes words.now) Form.Shed → ShedCompletes (C.left config.old) (S.left session.old) result }
     ensures relay { SpellsForm (map string_bytes words.now) Form.Relay → ReplaysUnder (λ text status. ReplaysRelay text (S.left session.old) (S.left session.new) (K.contents out.old) (K.contents out.new) status) (C.left config.old) (C.left config.new) (S.left session.old) (S.left session.new) (K.contents out.old) (K.contents out.new) result }
     ensures read_fault { result ≡ Status.ReadFault → Rose (S.faults session.old) (S.faults session.new) ⊎ (ReadsConfig (map string_bytes words.now) × Rose (C.faults config.old) (C.faults config.new)) }
     ensures write_fault { result ≡ Status.WriteFault → Rose (K.faults out.old) (K.faults out.new) }
@@ -60,6 +65,8 @@ pub fn replay_with_reason<C: Source, S: Source, K: Sink>(
     ensures nothing { result.status ≡ Status.Usage → (session.new ≡ session.old) × (out.new ≡ out.old) }
     ensures wire { SpellsForm (map string_bytes words.now) Form.Wire → ReplaysUnder (λ text status. RunsWire text (S.left session.old) (S.left session.new) (K.contents out.old) (K.contents out.new) status) (C.left config.old) (C.left config.new) (S.left session.old) (S.left session.new) (K.contents out.old) (K.contents out.new) result.status }
     ensures wire_completes { SpellsForm (map string_bytes words.now) Form.Wire → WireCompletes (C.left config.old) (S.left session.old) result.status }
+    ensures shed { SpellsForm (map string_bytes words.now) Form.Shed → ReplaysUnder (λ text status. RunsShed text (S.left session.old) (S.left session.new) (K.contents out.old) (K.contents out.new) status) (C.left config.old) (C.left config.new) (S.left session.old) (S.left session.new) (K.contents out.old) (K.contents out.new) result.status }
+    ensures shed_completes { SpellsForm (map string_bytes words.now) Form.Shed → ShedCompletes (C.left config.old) (S.left session.old) result.status }
     ensures relay { SpellsForm (map string_bytes words.now) Form.Relay → ReplaysUnder (λ text status. ReplaysRelay text (S.left session.old) (S.left session.new) (K.contents out.old) (K.contents out.new) status) (C.left config.old) (C.left config.new) (S.left session.old) (S.left session.new) (K.contents out.old) (K.contents out.new) result.status }
     ensures read_fault { result.status ≡ Status.ReadFault → Rose (S.faults session.old) (S.faults session.new) ⊎ (ReadsConfig (map string_bytes words.now) × Rose (C.faults config.old) (C.faults config.new)) }
     ensures write_fault { result.status ≡ Status.WriteFault → Rose (K.faults out.old) (K.faults out.new) }
@@ -68,6 +75,7 @@ pub fn replay_with_reason<C: Source, S: Source, K: Sink>(
     match read_form(words) {
         Some(Form::Plain) => replay_plain(alloc, session, out),
         Some(Form::Wire) => replay_wire(alloc, config, session, out),
+        Some(Form::Shed) => replay_shed(alloc, config, session, out),
         Some(Form::Relay) => replay_relay(alloc, config, session, out),
         Some(Form::Drill { streams }) => {
             let status = replay_drill(alloc, streams, out);

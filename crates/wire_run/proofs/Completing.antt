@@ -138,7 +138,7 @@ module _ (names : List (List ℕ)) (resources : ℕ) (are : AreNames names) wher
   unlike : (b : Bool) → b ≡ true → b ≡ false → ⊥
   unlike b is isnt = let k : true ≡ false = sym is ∙ isnt in cc
 
-  unrefused : (text read ys rest : List ℕ) (seen : WireSeen) (es : List Event) → MayFollowWireAll names resources es → text ≡ wire_text names (Behind es)
+  pub unrefused : (text read ys rest : List ℕ) (seen : WireSeen) (es : List Event) → MayFollowWireAll names resources es → text ≡ wire_text names (Behind es)
       → ((before line behind : List ℕ) → text ≡ before ++ (line ++ 10 ∷ behind) → IsWhole line → length line ≤ longest_line)
       → IsWireSeen names resources seen → text ≡ read ++ ys → read ≡ wire_text names seen ++ rest → IsRefused (SpellsNoWire names resources seen) (is_headed seen) (wire_text names seen) rest (Some ys) → ⊥
   unrefused text read ys rest seen es all text_is short may split reads refused =
@@ -189,6 +189,37 @@ module _ (names : List (List ℕ)) (resources : ℕ) (are : AreNames names) wher
 
 pub one_wire_session : (names : List (List ℕ)) (resources : ℕ) (s t : WireSeen) → AreNames names → IsWireSeen names resources s → IsWireSeen names resources t → wire_text names s ≡ wire_text names t → s ≡ t
 one_wire_session names resources s t are a b e = one_seen names resources are s t a b e
+
+-- ---- the first lines of a session are those of its first events
+
+module _ (names : List (List ℕ)) (resources : ℕ) (are : AreNames names) where
+  no_longer : (ds : List Event) → length ds ≤ 0 → ds ≡ []
+  no_longer [] most = refl
+  no_longer (d ∷ ds) most = absurd (omega (arith, most))
+
+  one_longer : (ds es : List Event) (f : Event) (x y : List ℕ) → MayFollowWireAll names resources ds → MayFollowWireAll names resources (f ∷ es) → length ds ≤ length (f ∷ es) → wire_event_lines names ds ++ x ≡ wire_event_lines names (f ∷ es) ++ y
+      → (length ds < length (f ∷ es) → (more : List Event) × (es ≡ more ++ ds)) → (length ds < length (f ∷ es)) ⊎ ((length ds ≡ length (f ∷ es)) ⊎ (length (f ∷ es) < length ds)) → (more : List Event) × (f ∷ es ≡ more ++ ds)
+  one_longer ds es f x y a b most e earlier (inl less) = let k = earlier less in (f ∷ k.0, ap (λ (v : List Event). f ∷ v) k.1)
+  one_longer ds es f x y a b most e earlier (inr (inl same)) = ([], sym (same_events names resources are ds (f ∷ es) x y same a b e).0)
+  one_longer ds es f x y a b most e earlier (inr (inr longer)) = absurd (omega (arith, longer, most))
+
+  in_front : (ds es : List Event) (x y : List ℕ) → MayFollowWireAll names resources ds → MayFollowWireAll names resources es → length ds ≤ length es → wire_event_lines names ds ++ x ≡ wire_event_lines names es ++ y
+      → (more : List Event) × (es ≡ more ++ ds)
+  in_front ds [] x y a b most e = ([], sym (no_longer ds most))
+  in_front ds (f ∷ es) x y a b most e =
+      one_longer ds es f x y a b most e (λ less. in_front ds es x (event_spelling names f ++ 10 ∷ y) a b.1 (omega (arith, less)) (e ∙ one_more names resources are (wire_event_lines names es) (event_spelling names f) y))
+      (compare names resources are (length ds) (length (f ∷ es)))
+
+  pub events_in_front : (ds es : List Event) (x : List ℕ) → MayFollowWireAll names resources ds → MayFollowWireAll names resources es → wire_event_lines names ds ++ x ≡ wire_event_lines names es → (more : List Event) × (es ≡ more ++ ds)
+  events_in_front ds es x a b e = by (compare names resources are (length ds) (length es))
+    where
+      whole : wire_event_lines names ds ++ x ≡ wire_event_lines names es ++ []
+      whole = e ∙ sym (append-nil (wire_event_lines names es))
+
+      by : (length ds < length es) ⊎ ((length ds ≡ length es) ⊎ (length es < length ds)) → (more : List Event) × (es ≡ more ++ ds)
+      by (inl less) = in_front ds es x [] a b (omega (arith, less)) whole
+      by (inr (inl same)) = in_front ds es x [] a b (omega (arith, same)) whole
+      by (inr (inr more)) = let k = next_event names resources are es ds [] x more b a (sym whole) in absurd (nothing_more names resources are _ k.more k.is)
 
 -- ---- the run
 

@@ -42,7 +42,7 @@ use Rattle.wire_summary.specs.Levels.{StageLimits, known_limits}
 use Rattle.wire_summary.specs.Logging.{WireLogIs, WireLogs}
 use Rattle.wire_summary.specs.declared.levels.BufferLimits.{BufferLimits}
 use Rattle.wire_summary.specs.declared.log.WireLog.{WireLog}
-use Rattle.worker_core.specs.Dispatching.{Dispatches}
+use Rattle.worker_core.specs.Dispatching.{Dispatches, Tells}
 use Rattle.wire_summary.specs.Summarizes.{Summarizes}
 use Rattle.session_lines.specs.declared.order.LineRead.TheVariants as read
 use Rattle.session_run.specs.declared.player.Went.TheVariants as went
@@ -89,6 +89,9 @@ pub event_played : (old new : WirePlay) (e : Event) (names : List (List ℕ)) (t
 event_played old new e names text_old text_new c is same told = record {
   goes = λ config h named new_one k. record {
     history = onto new.notes h;
+    notes = new.notes;
+    tells = (let P : ℕ → Type 0 = λ n. Tells (n + 1) e [] new.notes in subst P k.turn c.dispatches.notes);
+    behind = refl;
     added = notes_text (names_in config) new.notes;
     rests = carried_rests old new e config h c new_one k;
     tape = λ seen after t next may. carried_tape old new e config h seen after c new_one k (renamed old.lines.names (names_in config) e named is) t next may;
@@ -144,6 +147,18 @@ next_event config (Behind es) line (WireEvent f) e s q =
       fresh = λ h shown. (let P : Event → Type 0 = λ v. IsNewTo v h in subst P same (new_to (resources_in config) f es h s.may.2 shown));
     }
 
+-- where lines alone were read, the play rests as it did
+pub lines_read : (old new : WirePlay) → new.session ≡ old.session → new.stages ≡ old.stages → new.log ≡ old.log → (config : Config) (h : History NoMark) → PlayRests old config h → PlayRests new config h
+lines_read old new es et el config h k = record {
+  well = ap (λ v. v.failed) es ∙ k.well;
+  sound = rw es k.sound;
+  turn = ap (λ v. v.turn) es ∙ k.turn;
+  logs = rw el k.logs;
+  stages = rw et k.stages;
+  octets = record { under = ap (λ v. v.core.config) es ∙ k.octets.under; world = k.octets.world; stands = rw es k.octets.stands };
+  rows = rw el k.rows;
+}
+
 pub header_played : (old new : WirePlay) (line text_old text_new : List ℕ) → ReadsWireLine old.lines line new.lines (Ok read.Header) → new.session ≡ old.session → new.stages ≡ old.stages → new.log ≡ old.log → text_new ≡ text_old
     → PlaysLine wire_kind old line text_old new text_new (Ok went.On)
 header_played old new line text_old text_new r es et el tt_is = record {
@@ -159,7 +174,7 @@ header_played old new line text_old text_new r es et el tt_is = record {
           seen = wire_more k.seen a.item;
           history = k.history;
           read = a.lines;
-          rests = rests k.config k.history k.rests;
+          rests = lines_read old new es et el k.config k.history k.rests;
           tape = header_tape k.config k.seen line a.item k.history a.spells a.read k.tape;
           lines_are = ap (λ (v : List ℕ). v ++ (line ++ newline)) k.lines_are ∙ sym (text_more (names_in k.config) (resources_in k.config) k.seen line a.item a.spells);
           count_is = ap suc k.count_is ∙ sym (lines_more (names_in k.config) (resources_in k.config) k.seen line a.item a.spells);
@@ -167,17 +182,6 @@ header_played old new line text_old text_new r es et el tt_is = record {
         };
       };
 }
-  where
-    rests : (config : Config) (h : History NoMark) → PlayRests old config h → PlayRests new config h
-    rests config h k = record {
-      well = ap (λ v. v.failed) es ∙ k.well;
-      sound = rw es k.sound;
-      turn = ap (λ v. v.turn) es ∙ k.turn;
-      logs = rw el k.logs;
-      stages = rw et k.stages;
-      octets = record { under = ap (λ v. v.core.config) es ∙ k.octets.under; world = k.octets.world; stands = rw es k.octets.stands };
-      rows = rw el k.rows;
-    }
 
 pub line_refused : (old : WirePlay) (line : List ℕ) (new : WirePlay) (lines : WireLines) (text_old text_new : List ℕ) → ReadsWireLine old.lines line lines (Ok read.Refused) → text_new ≡ text_old
     → PlaysLine wire_kind old line text_old new text_new (Ok went.Refused)

@@ -29,7 +29,7 @@ refused_of R S b lines rest left f (MayNotCome n has r) = MayNotCome n has (f _ 
 refused_of R S b lines rest left f (Long broken short) = Long broken short
 refused_of R S b lines rest left f (Cut none fits unended end) = Cut none fits unended end
 
-ends_of : (how : Status) (R S : List ℕ → Type 0) (b : Bool) (lines rest : List ℕ) (left : Option (List ℕ)) → ((line : List ℕ) → R line → S line) → EndsAs R b how lines rest left → EndsAs S b how lines rest left
+pub ends_of : (how : Status) (R S : List ℕ → Type 0) (b : Bool) (lines rest : List ℕ) (left : Option (List ℕ)) → ((line : List ℕ) → R line → S line) → EndsAs R b how lines rest left → EndsAs S b how lines rest left
 ends_of status.Done R S b lines rest left f e = e
 ends_of status.Usage R S b lines rest left f e = e
 ends_of status.Config R S b lines rest left f e = e
@@ -98,11 +98,11 @@ tells_of status.TooLong config_text read text left t = told_of status.TooLong co
 pub runs_of : (config_text : List ℕ) (left_old left_new out_old out_new : Option (List ℕ)) (how : Status) → Replayed wire_kind config_text left_old left_new out_old out_new how → RunsWire config_text left_old left_new out_old out_new how
 runs_of config_text left_old left_new out_old out_new how r = record { read = r.read; text = r.text; consumes = r.consumes; appends = r.appends; tells = tells_of how config_text r.read r.text left_new r.tells }
 
-held_kept : (a : Option (List ℕ)) → Consumes a a []
+pub held_kept : (a : Option (List ℕ)) → Consumes a a []
 held_kept None = tt
 held_kept (Some x) = refl
 
-known_kept : (a : Option (List ℕ)) → Appends a a []
+pub known_kept : (a : Option (List ℕ)) → Appends a a []
 known_kept None = tt
 known_kept (Some x) = sym (append-nil x)
 

@@ -1,6 +1,7 @@
 -- What a wire session under way stands for.
 use Rattle.flow_notes.specs.Name.{AreNames}
 use Rattle.flow_notes.specs.declared.events.Event.{Event}
+use Rattle.flow_notes.specs.declared.notes.Note.{Note}
 use Rattle.io_ports.specs.declared.octets.NoMemory.{NoMemory}
 use Rattle.config_tables.specs.Reading.{config_of}
 use Rattle.proxy_config.specs.declared.config.Config.{Config}
@@ -8,9 +9,9 @@ use Rattle.session_config.specs.ClusterNames.{names_in, resources_in}
 use Rattle.session_lines.specs.WireLines.{IsWireSeen, SpellsNoWire, WireLinesAre, WireSeen, wire_events, wire_lines, wire_text}
 use Rattle.session_run.specs.Kinds.{Kind, kind_of}
 use Rattle.session_run.specs.declared.player.Went.{Went}
-use Rattle.std.specs.Prelude.{Bool, Err, List, Ok, Result, false, ℕ, ◌++◌, ◌∷◌, ◌≡◌}
+use Rattle.std.specs.Prelude.{Bool, Err, List, Ok, Result, [], false, ℕ, ◌++◌, ◌+◌, ◌∷◌, ◌≡◌}
 use Rattle.tape_laws.specs.Dispatches.{turns}
-use Rattle.tape_laws.specs.History.{History, NoMark}
+use Rattle.tape_laws.specs.History.{History, NoMark, onto}
 use Rattle.tape_laws.specs.Report.{summary_text}
 use Rattle.tape_laws.specs.Text.{tape_text}
 use Rattle.wire_run.specs.Rows.{limits_of, passes}
@@ -22,6 +23,7 @@ use Rattle.wire_state.specs.Marks.{row_in}
 use Rattle.wire_state.specs.Sound.{IsSound}
 use Rattle.wire_summary.specs.Levels.{shaped}
 use Rattle.wire_summary.specs.Logging.{WireLogIs}
+use Rattle.worker_core.specs.Dispatching.{Tells}
 use Rattle.session_run.specs.declared.player.Went.TheVariants as went
 
 -- the core is sound and stands behind the last turn note, and the log is that of the notes so far
@@ -67,7 +69,11 @@ wire_kind = kind_of Played RefusesLine can_end SumsPlay
 -- what one event does: it was dispatched and its notes stand in the text, or nothing of it does
 pub record Dispatched (old : WirePlay) (e : Event) (new : WirePlay) (config : Config) (h : History NoMark) (text_old text_new : List ℕ) : Type 0 where
   pub history : History NoMark
+  pub notes : List Note
   pub added : List ℕ
+  -- the notes of one dispatch, with the next number, stand behind the tape so far
+  pub tells : Tells (turns h + 1) e [] notes
+  pub behind : history ≡ onto notes h
   pub rests : PlayRests new config history
   pub tape : (seen after : WireSeen) → WireTape config seen h → wire_events after ≡ e ∷ wire_events seen → IsWireSeen (names_in config) (resources_in config) after → WireTape config after history
   pub told : tape_text (names_in config) history ≡ tape_text (names_in config) h ++ added

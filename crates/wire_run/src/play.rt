@@ -35,7 +35,10 @@ impl WirePlay {
     ghost use Rattle.config_tables.specs.Reading.{config_of};
     ghost use Rattle.session_run.specs.Runs.{Begins};
     ghost use Rattle.wire_run.specs.Passing.{CarriesOn};
-    ghost use Rattle.wire_run.specs.Played.{PlaysEvent, wire_kind};
+    ghost use Rattle.proxy_config.specs.declared.config.Config.{Config};
+    ghost use Rattle.session_lines.specs.WireLines.{ReadsWireLine};
+    ghost use Rattle.tape_laws.specs.History.{History, NoMark};
+    ghost use Rattle.wire_run.specs.Played.{PlayRests, PlaysEvent, wire_kind};
     ghost use Rattle.wire_state.specs.Sound.{IsSound};
 
     /// Before the first line of a session under this configuration.
@@ -75,8 +78,16 @@ impl WirePlay {
         &self.lines
     }
 
-    // Dispatches an event and appends its notes, or leaves the text as it was.
-    fn event(&mut self, event: &Event, text: &mut Octets) -> Result<Went, NoMemory>
+    /// Reads the next line, given without its newline, as far as it says what may come next.
+    pub fn read(&mut self, line: &[u8]) -> Result<LineRead, NoMemory>
+        ensures read { ReadsWireLine self.old.lines line.now self.new.lines result }
+        ensures rests { (config : Config) (h : History NoMark) → PlayRests self.old config h → PlayRests self.new config h }
+    {
+        self.lines.read(line)
+    }
+
+    /// Dispatches an event and appends its notes, or leaves the text as it was.
+    pub fn event(&mut self, event: &Event, text: &mut Octets) -> Result<Went, NoMemory>
         requires sound { self.old.session.failed ≡ false → IsSound self.old.session.core }
         requires event { IsEvent self.old.lines.names event.now }
         ensures { PlaysEvent self.old event.now text.old self.new text.new result }

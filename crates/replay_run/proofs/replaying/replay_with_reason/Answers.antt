@@ -1,5 +1,5 @@
 -- What the words ask for was done, and words without a form ask for nothing.
-use Rattle.replay_run.proofs.Wording.{drill_no_relay, drill_no_wire, drill_told, form_given, other_source, other_words, plain_no_relay, plain_no_wire, plain_told, relay_no_plain, relay_no_wire, relay_told, wire_no_plain, wire_no_relay, wire_told}
+use Rattle.replay_run.proofs.Wording.{drill_no_relay, drill_no_shed, drill_no_wire, drill_told, form_given, other_source, other_words, plain_no_relay, plain_no_shed, plain_no_wire, plain_told, relay_no_plain, relay_no_shed, relay_no_wire, relay_told, shed_no_plain, shed_no_relay, shed_no_wire, shed_told, wire_no_plain, wire_no_relay, wire_no_shed, wire_told}
 use Rattle.replay_run.specs.declared.form.Form.TheVariants as form
 use Rattle.std.proofs.Common.{inl, inr}
 use Rattle.replay_run.proofs.replaying.replay_with_reason.Goals as goal
@@ -70,10 +70,10 @@ pub returns-in-Some-Relay-clause-wire_completes : goal.returns-in-Some-Relay-cla
 returns-in-Some-Relay-clause-wire_completes g c = λ s. other_words _ form.Relay form.Wire _ relay_no_wire (form_given _ _ _ c.in-Some-Relay.field-0-is c.in-Some-Relay.ensures.some) s
 
 pub returns-in-Some-Relay-clause-read_fault : goal.returns-in-Some-Relay-clause-read_fault
-returns-in-Some-Relay-clause-read_fault g c = λ e. other_source _ _ _ (inr (form_given _ _ _ c.in-Some-Relay.field-0-is c.in-Some-Relay.ensures.some)) (c.replay_relay.ensures.read_fault e)
+returns-in-Some-Relay-clause-read_fault g c = λ e. other_source _ _ _ (inr (inr (form_given _ _ _ c.in-Some-Relay.field-0-is c.in-Some-Relay.ensures.some))) (c.replay_relay.ensures.read_fault e)
 
 pub returns-in-Some-Relay-clause-config : goal.returns-in-Some-Relay-clause-config
-returns-in-Some-Relay-clause-config g c = λ no. absurd (no (inr (form_given _ _ _ c.in-Some-Relay.field-0-is c.in-Some-Relay.ensures.some)))
+returns-in-Some-Relay-clause-config g c = λ no. absurd (no (inr (inr (form_given _ _ _ c.in-Some-Relay.field-0-is c.in-Some-Relay.ensures.some))))
 
 pub returns-in-Some-Drill-clause-tape : goal.returns-in-Some-Drill-clause-tape
 returns-in-Some-Drill-clause-tape g c =
@@ -102,3 +102,69 @@ returns-in-None-clause-wire g c = λ s. absurd (c.in-None.ensures.none.none form
 
 pub returns-in-None-clause-wire_completes : goal.returns-in-None-clause-wire_completes
 returns-in-None-clause-wire_completes g c = λ s. absurd (c.in-None.ensures.none.none form.Wire s)
+
+pub returns-in-Some-Shed-clause-tape : goal.returns-in-Some-Shed-clause-tape
+returns-in-Some-Shed-clause-tape g c = shed_told _ _ _ _ _ _ (form_given _ _ _ c.in-Some-Shed.field-0-is c.in-Some-Shed.ensures.some)
+
+pub returns-in-Some-Shed-clause-completes : goal.returns-in-Some-Shed-clause-completes
+returns-in-Some-Shed-clause-completes g c = λ s. other_words _ form.Shed form.Plain _ shed_no_plain (form_given _ _ _ c.in-Some-Shed.field-0-is c.in-Some-Shed.ensures.some) s
+
+pub returns-in-Some-Shed-clause-usage : goal.returns-in-Some-Shed-clause-usage
+returns-in-Some-Shed-clause-usage g c =
+    (λ e. absurd (c.replay_shed.ensures.some e), λ none. absurd (none.none form.Shed (form_given _ _ _ c.in-Some-Shed.field-0-is c.in-Some-Shed.ensures.some)))
+
+pub returns-in-Some-Shed-clause-nothing : goal.returns-in-Some-Shed-clause-nothing
+returns-in-Some-Shed-clause-nothing g c = λ e. absurd (c.replay_shed.ensures.some e)
+
+pub returns-in-Some-Shed-clause-shed : goal.returns-in-Some-Shed-clause-shed
+returns-in-Some-Shed-clause-shed g c = λ s. c.replay_shed.ensures.tape
+
+pub returns-in-Some-Shed-clause-shed_completes : goal.returns-in-Some-Shed-clause-shed_completes
+returns-in-Some-Shed-clause-shed_completes g c = λ s. c.replay_shed.ensures.completes
+
+pub returns-in-Some-Shed-clause-relay : goal.returns-in-Some-Shed-clause-relay
+returns-in-Some-Shed-clause-relay g c = λ s. other_words _ form.Shed form.Relay _ shed_no_relay (form_given _ _ _ c.in-Some-Shed.field-0-is c.in-Some-Shed.ensures.some) s
+
+pub returns-in-Some-Shed-clause-read_fault : goal.returns-in-Some-Shed-clause-read_fault
+returns-in-Some-Shed-clause-read_fault g c = λ e. other_source _ _ _ (inr (inl (form_given _ _ _ c.in-Some-Shed.field-0-is c.in-Some-Shed.ensures.some))) (c.replay_shed.ensures.read_fault e)
+
+pub returns-in-Some-Shed-clause-config : goal.returns-in-Some-Shed-clause-config
+returns-in-Some-Shed-clause-config g c = λ no. absurd (no (inr (inl (form_given _ _ _ c.in-Some-Shed.field-0-is c.in-Some-Shed.ensures.some))))
+
+pub returns-in-Some-Shed-clause-wire : goal.returns-in-Some-Shed-clause-wire
+returns-in-Some-Shed-clause-wire g c = λ s. other_words _ form.Shed form.Wire _ shed_no_wire (form_given _ _ _ c.in-Some-Shed.field-0-is c.in-Some-Shed.ensures.some) s
+
+pub returns-in-Some-Shed-clause-wire_completes : goal.returns-in-Some-Shed-clause-wire_completes
+returns-in-Some-Shed-clause-wire_completes g c = λ s. other_words _ form.Shed form.Wire _ shed_no_wire (form_given _ _ _ c.in-Some-Shed.field-0-is c.in-Some-Shed.ensures.some) s
+
+pub returns-in-Some-Plain-clause-shed : goal.returns-in-Some-Plain-clause-shed
+returns-in-Some-Plain-clause-shed g c = λ s. other_words _ form.Plain form.Shed _ plain_no_shed (form_given _ _ _ c.in-Some-Plain.field-0-is c.in-Some-Plain.ensures.some) s
+
+pub returns-in-Some-Plain-clause-shed_completes : goal.returns-in-Some-Plain-clause-shed_completes
+returns-in-Some-Plain-clause-shed_completes g c = λ s. other_words _ form.Plain form.Shed _ plain_no_shed (form_given _ _ _ c.in-Some-Plain.field-0-is c.in-Some-Plain.ensures.some) s
+
+pub returns-in-Some-Wire-clause-shed : goal.returns-in-Some-Wire-clause-shed
+returns-in-Some-Wire-clause-shed g c = λ s. other_words _ form.Wire form.Shed _ wire_no_shed (form_given _ _ _ c.in-Some-Wire.field-0-is c.in-Some-Wire.ensures.some) s
+
+pub returns-in-Some-Wire-clause-shed_completes : goal.returns-in-Some-Wire-clause-shed_completes
+returns-in-Some-Wire-clause-shed_completes g c = λ s. other_words _ form.Wire form.Shed _ wire_no_shed (form_given _ _ _ c.in-Some-Wire.field-0-is c.in-Some-Wire.ensures.some) s
+
+pub returns-in-Some-Relay-clause-shed : goal.returns-in-Some-Relay-clause-shed
+returns-in-Some-Relay-clause-shed g c = λ s. other_words _ form.Relay form.Shed _ relay_no_shed (form_given _ _ _ c.in-Some-Relay.field-0-is c.in-Some-Relay.ensures.some) s
+
+pub returns-in-Some-Relay-clause-shed_completes : goal.returns-in-Some-Relay-clause-shed_completes
+returns-in-Some-Relay-clause-shed_completes g c = λ s. other_words _ form.Relay form.Shed _ relay_no_shed (form_given _ _ _ c.in-Some-Relay.field-0-is c.in-Some-Relay.ensures.some) s
+
+pub returns-in-Some-Drill-clause-shed : goal.returns-in-Some-Drill-clause-shed
+returns-in-Some-Drill-clause-shed g c =
+    λ s. other_words _ (form.Drill c.in-Some-Drill.streams) form.Shed _ (drill_no_shed c.in-Some-Drill.streams) (form_given _ _ _ c.in-Some-Drill.field-0-is c.in-Some-Drill.ensures.some) s
+
+pub returns-in-Some-Drill-clause-shed_completes : goal.returns-in-Some-Drill-clause-shed_completes
+returns-in-Some-Drill-clause-shed_completes g c =
+    λ s. other_words _ (form.Drill c.in-Some-Drill.streams) form.Shed _ (drill_no_shed c.in-Some-Drill.streams) (form_given _ _ _ c.in-Some-Drill.field-0-is c.in-Some-Drill.ensures.some) s
+
+pub returns-in-None-clause-shed : goal.returns-in-None-clause-shed
+returns-in-None-clause-shed g c = λ s. absurd (c.in-None.ensures.none.none form.Shed s)
+
+pub returns-in-None-clause-shed_completes : goal.returns-in-None-clause-shed_completes
+returns-in-None-clause-shed_completes g c = λ s. absurd (c.in-None.ensures.none.none form.Shed s)

@@ -1,0 +1,5 @@
+mod Carrying
+mod Counting
+mod Judging
+mod States
+mod Sums

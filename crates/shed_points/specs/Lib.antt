@@ -1,0 +1,4 @@
+pub mod Dispatching
+pub mod Shedders
+pub mod ShedList
+pub mod Shedding

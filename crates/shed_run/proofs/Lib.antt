@@ -1,0 +1,9 @@
+mod Completing
+mod Following
+mod Lining
+mod Listing
+mod Parts
+mod Playing
+mod Retelling
+mod Spelling
+mod Texts
