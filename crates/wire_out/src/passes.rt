@@ -118,10 +118,12 @@ fn runs_on(core: &WireCore, flow: FlowId) -> bool
     ensures { result ≡ true → top_go core.entry.now.agenda ≡ 6 }
 {
     match core.agenda.top() {
-        Some(Task::Run {
-            course,
-            tried: false,
-        }) => course.flow == flow,
+        Some(
+            Task::Run {
+                course,
+                tried: false,
+            },
+        ) => course.flow == flow,
         _ => false,
     }
 }

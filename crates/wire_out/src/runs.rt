@@ -86,7 +86,11 @@ fn move_on(
 
 // A flow without octets has nothing to move, and a drain brings it none: it isn't looked at once more. Its connections are
 // drained, the one that it goes to first and at once.
-pub(crate) fn drain_both(core: &mut WireCore, course: Course, notes: &mut Notes) -> Result<(), NoMemory>
+pub(crate) fn drain_both(
+    core: &mut WireCore,
+    course: Course,
+    notes: &mut Notes,
+) -> Result<(), NoMemory>
     requires sound { IsSound core.old }
     ensures sound { OnOk result (IsSound core.new) }
     ensures go { OnOk result (to_go core.new ≤ to_go core.old + 2) }
