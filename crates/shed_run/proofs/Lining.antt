@@ -5,7 +5,7 @@ use Rattle.flow_notes.specs.declared.events.Event.{Event}
 use Rattle.io_ports.specs.declared.octets.NoMemory.{NoMemory}
 use Rattle.proxy_config.specs.declared.config.Config.{Config}
 use Rattle.session_config.specs.ClusterNames.{names_in, resources_in}
-use Rattle.session_lines.specs.WireLines.{Behind, NoLine, ReadsWireLine, SpellsWire, WireEvent, WireHeader, WireItem, WireLinesAre, WireSeen, wire_events, wire_more, wire_read, wire_text}
+use Rattle.session_lines.specs.WireLines.{Behind, NoLine, ReadsWireLine, SpellsWire, WireEvent, WireHeader, WireItem, WireLinesAre, WireSeen, wire_events, wire_lines, wire_more, wire_read, wire_text}
 use Rattle.session_lines.specs.declared.order.LineRead.{LineRead}
 use Rattle.session_lines.specs.declared.wire_lines.WireLines.{WireLines}
 use Rattle.session_run.specs.Players.{AddsSummary, IsPlaying, PlayedAs, PlaysLine}
@@ -21,13 +21,20 @@ use Rattle.std.specs.Prelude.{Bool, Err, List, Ok, OnOk, Result, [], false, suc,
 use Rattle.tape_laws.specs.History.{History, Marked, NoMark, Noted}
 use Rattle.tape_laws.specs.Text.{note_line, tape_text}
 use Rattle.tape_laws.specs.declared.PlainLimits.{PlainLimits}
-use Rattle.wire_run.proofs.Playing.{lines_more, read_as, text_more}
+use Rattle.wire_run.proofs.Playing.{read_as, text_more}
 use Rattle.wire_run.specs.Played as wire
 use Rattle.wire_run.specs.Played.{PlayRests, wire_kind}
 use Rattle.wire_run.specs.Tapes.{WireTape}
 use Rattle.flow_notes.specs.declared.notes.Note.TheVariants as note
 use Rattle.session_lines.specs.declared.order.LineRead.TheVariants as read
 use Rattle.session_run.specs.declared.player.Went.TheVariants as went
+
+-- one line more was read
+lines_more : (names : List (List ℕ)) (resources : ℕ) (seen : WireSeen) (line : List ℕ) (item : WireItem) → SpellsWire names resources seen line item → wire_lines (wire_more seen item) ≡ suc (wire_lines seen)
+lines_more names resources NoLine line WireHeader s = refl
+lines_more names resources NoLine line (WireEvent e) s = absurd s.may
+lines_more names resources (Behind es) line WireHeader s = absurd s.may
+lines_more names resources (Behind es) line (WireEvent e) s = refl
 
 -- ---- the header
 

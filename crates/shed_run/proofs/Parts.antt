@@ -17,7 +17,7 @@ use Rattle.shed_run.specs.ShedLines.{Placed, conn_of, line_told}
 use Rattle.shed_run.specs.ShedText.{text_with}
 use Rattle.std.proofs.Common.{ap, append-nil, append_assoc, arith, length-append, refl, subst, sym, ◌∙◌}
 use Rattle.std.proofs.lemmas.List.{append_cancel_left, length-reverse, reverse-append}
-use Rattle.std.specs.Prelude.{Err, List, Ok, [], length, reverse, ℕ, ◌++◌, ◌+◌, ◌∷◌, ◌≡◌}
+use Rattle.std.specs.Prelude.{Err, List, Ok, OnErr, Result, length, reverse, [], ℕ, ◌++◌, ◌+◌, ◌∷◌, ◌≡◌}
 use Rattle.tape_laws.specs.Dispatches.{turns}
 use Rattle.tape_laws.specs.History.{History, NoMark, onto}
 use Rattle.tape_laws.specs.Text.{tape_text}
@@ -26,7 +26,6 @@ use Rattle.wire_run.proofs.Noting.{dispatch_adds, onto_text}
 use Rattle.wire_run.proofs.Standing.{new_to}
 use Rattle.wire_run.specs.Played.{Dispatched, DispatchedAs, PlaysEvent}
 use Rattle.wire_run.specs.declared.play.WirePlay.{WirePlay}
-use Rattle.wire_state.specs.Sound.{IsSound}
 use Rattle.session_run.specs.declared.player.Went.TheVariants as went
 use Rattle.shed_points.specs.declared.verdict.Verdict.TheVariants as verdict
 
@@ -74,6 +73,18 @@ none_played old text = record {
   goes = λ config fs lines h named s may. record { history = h; added = []; stands = s; told = sym (append-nil (text_with (names_in config) lines h)); text = sym (append-nil text); lines_stay = refl };
 }
 
+-- what stands behind a text that stands behind another
+pub further : (a b c : List ℕ) → Extends a b → Extends b c → Extends a c
+further a b c p q = record { added = p.added ++ q.added; is = q.is ∙ ap (λ (v : List ℕ). v ++ q.added) p.is ∙ append_assoc a p.added q.added }
+
+-- nothing more was written
+pub still : (a b c : List ℕ) → Extends a b → c ≡ b → Extends a c
+still a b c p same = let P : List ℕ → Type 0 = λ v. Extends a v in subst P (sym same) p
+
+pub on_err : {A E P : Type 0} (r : Result A E) → P → OnErr r P
+on_err (Ok x) p = tt
+on_err (Err x) p = p
+
 -- nothing of it was played where memory was refused
 pub none_told : (old new : WirePlay) (e : Event) (text_old text_new : List ℕ) (x : NoMemory) → MayPlay old (e ∷ []) → PlaysEvent old e text_old new text_new (Err x) → text_new ≡ text_old
 none_told old new e text_old text_new x m p = p.goes m.config m.history m.named (new_to (resources_in m.config) e m.fs m.history m.may.0.2 m.stands.tape.shown) m.stands.rests
@@ -82,9 +93,9 @@ none_told old new e text_old text_new x m p = p.goes m.config m.history m.named 
 pub plays_extend : (old new : WirePlay) (es : List Event) (text_old text_new : List ℕ) → MayPlay old es → Plays old es text_old new text_new → Extends text_old text_new
 plays_extend old new es text_old text_new m p = let a = p.goes m.config m.fs [] m.history m.named m.stands m.may in record { added = a.added; is = a.text }
 
--- the core that plays it is sound
-pub is_sound : (play : WirePlay) (es : List Event) → MayPlay play es → IsSound play.session.core
-is_sound play es m = m.stands.rests.sound
+-- with the line of an event behind it
+pub line_extends : (old mid : WirePlay) (es : List Event) (text_old text_mid text_line line : List ℕ) → MayPlay old es → Plays old es text_old mid text_mid → text_line ≡ text_mid ++ line → Extends text_old text_line
+line_extends old mid es text_old text_mid text_line line m p is = further text_old text_mid text_line (plays_extend old mid es text_old text_mid m p) (record { added = line; is = is })
 
 -- the event is in its range
 pub in_range : (play : WirePlay) (e : Event) → MayPlay play (e ∷ []) → IsEvent play.lines.names e

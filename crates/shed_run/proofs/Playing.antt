@@ -35,7 +35,7 @@ use Rattle.shed_points.specs.declared.verdict.Verdict.TheVariants as verdict
 may_of : (names : List (List ℕ)) (resources : ℕ) (fs : List Event) (e : Event) (b : Bool) (o : Option Event) → MayFollowWireAll names resources fs → (b ≡ true → MayFollowWire names resources fs e)
     → ((f : Event) → o ≡ Some f → MayFollowWire names resources ((if b then e ∷ [] else []) ++ fs) f) → MayFollowWireAll names resources (reverse ((if b then e ∷ [] else []) ++ as_list o) ++ fs)
 may_of names resources fs e true None all itself stead = (itself refl, all)
-may_of names resources fs e true (Some f) all itself stead = (stead f refl, itself refl, all)
+may_of names resources fs e true (Some f) all itself stead = (stead f refl, (itself refl, all))
 may_of names resources fs e false None all itself stead = all
 may_of names resources fs e false (Some f) all itself stead = (stead f refl, all)
 
