@@ -25,7 +25,7 @@ returns-clause-ok c =
     let line = c.in_ok-put_line.ensures.ok ∙ ap (λ n. c.play_kept.new.text ++ line_told e v n) c.in_ok-play_kept.ensures.others.1 in
     on_ok_weaker c.play_stead.result
     (λ p. whole_played c.args.self.now.play c.play_kept.new.self.play c.play_stead.new.self.play e v c.args.self.now.events (kept e v) (as_list c.args.stead) c.args.text.now c.play_kept.new.text c.put_line.new.into c.play_stead.new.text
-        c.in_ok-play_kept.ensures.ok line p)
+    c.in_ok-play_kept.ensures.ok line p)
     c.play_stead.ensures.ok
 
 pub returns-clause-err : goal.returns-clause-err
