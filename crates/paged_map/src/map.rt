@@ -11,7 +11,7 @@ ghost use Rattle.std.specs.Ordering.{nat_cmp};
 ghost use Rattle.std.specs.Prelude.{◌≡◌, ◌<◌, ◌≤◌, ◌+◌, ◌^◌, [], if◌then◌else◌, IfOk, IfSome, IsSomeAnd, None, OnErr, OnOk, Some, ℕ, is_some, length, true};
 
 use crate::key::Key;
-use crate::page::{Page, WIDTH};
+use crate::page::{Page, Spare, WIDTH};
 use crate::pages::{clear, find, next, page_for};
 use io_ports::NoMemory;
 use std::alloc::Global;
@@ -29,6 +29,8 @@ pub struct PagedMap<K: Key, V> {
     len: usize,
     // In the order of their indexes. None is blank but the last.
     pages: Vec<Page<V>>,
+    // A page that went, for the next that comes.
+    spare: Spare<V>,
 }
 
 impl<K: Key, V> Model for PagedMap<K, V> {
@@ -56,6 +58,7 @@ impl<K: Key, V> PagedMap<K, V> {
             keys: PhantomData,
             len: 0,
             pages: Vec::new(alloc),
+            spare: Spare::none(),
         }
     }
 
@@ -139,7 +142,7 @@ impl<K: Key, V> PagedMap<K, V> {
         if self.len == MOST {
             return Err(NoMemory);
         }
-        let place = page_for(&mut self.pages, self.alloc, number / WIDTH)?;
+        let place = page_for(&mut self.pages, &mut self.spare, self.alloc, number / WIDTH)?;
         let old = self.pages[place].put((number % WIDTH) as usize, value);
         if old.is_some() {
             return Ok(old);
@@ -163,7 +166,7 @@ impl<K: Key, V> PagedMap<K, V> {
         if self.len == MOST {
             return Err(NoMemory);
         }
-        let place = page_for(&mut self.pages, self.alloc, number / WIDTH)?;
+        let place = page_for(&mut self.pages, &mut self.spare, self.alloc, number / WIDTH)?;
         if self.pages[place].set((number % WIDTH) as usize, value) {
             return Ok(());
         }
@@ -191,7 +194,7 @@ impl<K: Key, V> PagedMap<K, V> {
         }
         let old = self.pages[place].take(slot);
         self.len -= 1;
-        clear(&mut self.pages, place);
+        clear(&mut self.pages, &mut self.spare, place);
         old
     }
 
@@ -213,7 +216,7 @@ impl<K: Key, V> PagedMap<K, V> {
         if self.pages[place].has(slot) {
             self.pages[place].discard(slot);
             self.len -= 1;
-            clear(&mut self.pages, place);
+            clear(&mut self.pages, &mut self.spare, place);
         }
     }
 }
