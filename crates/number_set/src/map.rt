@@ -118,15 +118,30 @@ impl<T: Copy> NumberMap<T> {
         self.search(number)
     }
 
-    // The same without a look at the last: as far from the first as the number is, or else by halves. It isn't inlined, so that
-    // its code is there once for all that look for a number.
+    // The same without a look at the last: before all where the number is below the first, as numbers of streams that are closed
+    // mostly are, or as far from the first as the number is, or else by halves. It isn't inlined, so that its code is there once
+    // for all that look for a number.
     #[inline(never)]
     fn search(&self, number: u64) -> Result<usize, usize>
         ensures { MatchResult result (λ i. IsAt number i self.now) (λ i. IsGap number i self.now) }
     {
+        if self.is_below_all(number) {
+            return Err(0);
+        }
         match self.guess(number) {
             Some(place) => Ok(place),
             None => self.by_halves(number),
+        }
+    }
+
+    // Whether a number is below the first.
+    #[inline(always)]
+    fn is_below_all(&self, number: u64) -> bool
+        ensures { result ≡ true → IsGap number 0 self.now }
+    {
+        match self.items.front() {
+            Some(first) => number < first.0,
+            None => false,
         }
     }
 
