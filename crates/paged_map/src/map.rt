@@ -12,7 +12,7 @@ ghost use Rattle.std.specs.Prelude.{◌≡◌, ◌<◌, ◌≤◌, ◌+◌, ◌^
 
 use crate::key::Key;
 use crate::page::{Page, Spare, WIDTH};
-use crate::pages::{clear, find, next, page_for};
+use crate::pages::{clear, find, next, on_last, page_for, search};
 use io_ports::NoMemory;
 use std::alloc::Global;
 use std::marker::{Model, PhantomData};
@@ -86,7 +86,20 @@ impl<K: Key, V> PagedMap<K, V> {
         ensures value { option_copied result ≡ value_at (K.number key.now) self.now }
     {
         let number = key.number();
-        match find(self.pages.as_slice(), number / WIDTH) {
+        match on_last(self.pages.as_slice(), number / WIDTH) {
+            Some(place) => self.pages[place].get((number % WIDTH) as usize),
+            None => self.get_far(*key),
+        }
+    }
+
+    // The same where the key isn't on the last page. It isn't inlined, so that a look-up on the last page stays short wherever it
+    // stands.
+    #[inline(never)]
+    fn get_far(&self, key: K) -> Option<&V>
+        ensures value { option_copied result ≡ value_at (K.number key) self.now }
+    {
+        let number = key.number();
+        match search(self.pages.as_slice(), number / WIDTH) {
             Ok(place) => self.pages[place].get((number % WIDTH) as usize),
             Err(_) => None,
         }

@@ -27,10 +27,23 @@ pub(crate) fn find<V>(pages: &[Page<V>], index: u64) -> Result<usize, usize>
     }
 }
 
-// The same without a look at the last: as far from the first page as the index is, or else by halves. It isn't inlined, so that a
-// look-up on the last page stays short wherever it stands.
+/// Where the last page stands, if it has an index.
+#[inline(always)]
+pub(crate) fn on_last<V>(pages: &[Page<V>], index: u64) -> Option<usize>
+    requires { IsSorted pages.now }
+    ensures { IfSome result (λ i. IsAt index i pages.now) }
+{
+    let last = pages.last()?;
+    if last.index() == index {
+        return Some(pages.len() - 1);
+    }
+    None
+}
+
+/// The same as `find` without a look at the last: as far from the first page as the index is, or else by halves. It isn't inlined,
+/// so that a look-up on the last page stays short wherever it stands.
 #[inline(never)]
-fn search<V>(pages: &[Page<V>], index: u64) -> Result<usize, usize>
+pub(crate) fn search<V>(pages: &[Page<V>], index: u64) -> Result<usize, usize>
     requires { IsSorted pages.now }
     ensures { MatchResult result (λ i. IsAt index i pages.now) (λ i. IsGap index i pages.now) }
 {
