@@ -93,9 +93,9 @@ told_plain octet f told least most first second =
     let here : 14 + p ≡ octet % 128 - 1 = omega (arith, least) in
     let same : (entry static_table (14 + p)).name ≡ f.name = ap (λ q. (entry static_table q).name) here ∙ told_name_is octet f told (omega (arith, least)) in
     let other : (eqb p 13 || eqb p 42) ≡ false =
-        ap (λ b. b || eqb p 42) (ne_eqb p 13 (λ e. first (omega (arith, e, least)))) ∙ ne_eqb p 42 (λ e. second (omega (arith, e, least))) in
+    ap (λ b. b || eqb p 42) (ne_eqb p 13 (λ e. first (omega (arith, e, least)))) ∙ ne_eqb p 42 (λ e. second (omega (arith, e, least))) in
     let plain : is_plain_name f.name ≡ true =
-        ap is_plain_name (sym same) ∙ sym (ap (λ b. b || is_plain_name (entry static_table (14 + p)).name) other) ∙ plain_there p (omega (arith, least, most)) in
+    ap is_plain_name (sym same) ∙ sym (ap (λ b. b || is_plain_name (entry static_table (14 + p)).name) other) ∙ plain_there p (omega (arith, least, most)) in
     let parts = and_parts _ _ plain in
     let others = and_parts _ _ parts.1 in
     record {

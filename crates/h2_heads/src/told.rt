@@ -19,13 +19,21 @@ pub enum Named {
     Unknown,
 }
 
+/// The indexes of the regular names that have rules of their own.
+const CONTENT_LENGTH: u8 = 28;
+
+const TRANSFER_ENCODING: u8 = 57;
+
 /// What is told of the name of a field.
 #[inline(always)]
 pub fn name_told(told: u8) -> Named
     ensures { (field : Field) → IsToldBy told field → IsNamed result field }
 {
-    match told % 128 {
-        0 | 28 | 57 => Named::Unknown,
+    let index = told % 128;
+    if index == CONTENT_LENGTH || index == TRANSFER_ENCODING {
+        return Named::Unknown;
+    }
+    match index {
         1 => Named::Pseudo(Pseudo::Authority),
         2 | 3 => Named::Pseudo(Pseudo::Method),
         4 | 5 => Named::Pseudo(Pseudo::Path),

@@ -22,4 +22,4 @@ returns-in-8-to-14 c = λ field told.
 
 pub returns-in-15-to-61 : goal.returns-in-15-to-61
 returns-in-15-to-61 c = λ field told.
-    told_plain c.args.told field told (omega (arith, c.in-15-to-61)) (omega (arith, c.in-15-to-61)) (λ e. ?) (λ e. ?)
+    told_plain c.args.told field told (omega (arith, c.in-15-to-61)) (omega (arith, c.in-15-to-61)) (λ e. omega (arith, e)) (λ e. omega (arith, e))
