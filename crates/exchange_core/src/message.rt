@@ -50,11 +50,15 @@ impl Message {
     pub(crate) fn clear(&mut self)
         ensures { self.new ≡ empty_message }
     {
-        self.head = None;
+        if self.head.is_some() {
+            self.head = None;
+        }
         self.head_ends = false;
         self.head_framed = false;
         self.ended = false;
-        self.trailers = None;
+        if self.trailers.is_some() {
+            self.trailers = None;
+        }
         self.end_framed = false;
     }
 
