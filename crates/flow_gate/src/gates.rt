@@ -1,10 +1,11 @@
 // The gates of a worker.
-ghost use Rattle.std.specs.Prelude.{◌≡◌, ◌==◌, ◌&&◌, ◌≤◌, ◌^◌, ◌↔◌, [], false, true, IfOk, Some, OnOk, OnErr, IsNone, count_by, length, not, option_map, option_to_list, slice_get, take, if◌then◌else◌};
+ghost use Rattle.std.specs.Prelude.{◌≡◌, ◌==◌, ◌&&◌, ◌≤◌, ◌^◌, ◌↔◌, [], false, true, IfOk, IfSome, IsSome, Some, OnOk, OnErr, IsNone, count_by, length, not, option_map, option_to_list, slice_get, take, if◌then◌else◌};
 ghost use Rattle.flow_gate.specs.Board.{IsSound, count, is_known, is_marked, is_open, pending_on, times, watchers_of};
-ghost use Rattle.flow_gate.specs.Changes.{Begins, Closes, Drains, Forgets, IsEmpty, Knows, Rises, Tells, Watches};
+ghost use Rattle.flow_gate.specs.Changes.{Begins, Closes, Drains, Forgets, IsEmpty, IsSeenAs, Knows, Opens, Rises, Tells, Watches};
 ghost use Rattle.flow_gate.specs.Ids.{same_buffer};
-ghost use Rattle.flow_gate.specs.Line.{Line, held_in, left, told};
-ghost use Rattle.flow_gate.specs.Parts.{AreWatches, StandsIn, above_at, buffer_at, held, is_stage, kept, watched_in};
+ghost use Rattle.flow_gate.specs.Line.{Line, alone, held_in, left, told};
+ghost use Rattle.flow_gate.specs.Named.{Updates};
+ghost use Rattle.flow_gate.specs.Parts.{AreWatches, IsApart, Joins, StandsIn, above_at, buffer_at, held, is_stage, kept, watched_in};
 ghost use Rattle.flow_rules.specs.declared.ids.BufferId.{BufferId};
 ghost use Rattle.flow_rules.specs.declared.ids.FlowId.{FlowId};
 
@@ -309,7 +310,7 @@ impl Gates {
 // The send buffer of a flow is known from now on, and the flow stands alone in its line. The answer is its place there.
 #[inline(always)]
 fn line_up(buffers: &mut Buffers, spares: &mut Spares, flow: FlowId) -> Result<u64, NoMemory>
-    ensures ok { IfOk result (λ place. BufferUpdated (BufferId.Send flow) (Some (alone place flow)) buffers.old buffers.new) }
+    ensures ok { IfOk result (λ place. Updates same_buffer (BufferId.Send flow) (Some (alone place flow)) buffers.old buffers.new) }
     ensures err { OnErr result (buffers.new ≡ buffers.old) }
 {
     spares.ready()?;
@@ -329,7 +330,13 @@ fn join(
     flow: FlowId,
     own: u64,
     conn: u32,
-) -> Result<bool, NoMemory> {
+) -> Result<bool, NoMemory>
+    requires known { IsSome (buffer_at buffers.old (BufferId.Write conn)) }
+    requires apart { IfSome (buffer_at buffers.old (BufferId.Write conn)) (IsApart flow) }
+    ensures ok { IfOk result (λ above. Joins flow own conn above flows.old flows.new buffers.old buffers.new) }
+    ensures flows { OnErr result (flows.new ≡ flows.old) }
+    ensures buffers { OnErr result ((b : BufferId) → buffer_at buffers.new b ≡ buffer_at buffers.old b) }
+{
     let Some(gate) = buffers.write_mut(conn) else {
         unreachable!()
     };

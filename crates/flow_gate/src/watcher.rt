@@ -59,7 +59,7 @@ impl Watcher {
     /// memory.
     #[inline(always)]
     pub(crate) fn of_sender(alloc: Global, flow: FlowId, own: u64, conn: u32, place: u64) -> Self
-        ensures { result.watches ≡ record { buffer = BufferId.Send flow; place = own } ∷ record { buffer = BufferId.Write conn; place = place } ∷ [] }
+        ensures { result.watches ≡ (record { buffer = BufferId.Send flow; place = own }) ∷ (record { buffer = BufferId.Write conn; place = place }) ∷ [] }
     {
         let send = Watch {
             buffer: BufferId::Send(flow),
