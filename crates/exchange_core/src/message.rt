@@ -50,15 +50,11 @@ impl Message {
     pub(crate) fn clear(&mut self)
         ensures { self.new ≡ empty_message }
     {
-        if self.head.is_some() {
-            self.head = None;
-        }
+        self.head = None;
         self.head_ends = false;
         self.head_framed = false;
         self.ended = false;
-        if self.trailers.is_some() {
-            self.trailers = None;
-        }
+        self.trailers = None;
         self.end_framed = false;
     }
 
