@@ -1,5 +1,5 @@
 use Rattle.flow_gate.proofs.Opening.{left_back}
-use Rattle.flow_gate.proofs.gates.join.Goals as goal
+use Rattle.flow_gate.proofs.senders.join.Goals as goal
 
 pub returns-in-Err-clause-buffers : goal.returns-in-Err-clause-buffers
 returns-in-Err-clause-buffers c = left_back c.args.flow c.args.conn c.in_ok-place.place c.in-Some.gate.now c.add.new.self c.remove.new.self c.args.buffers.now _
