@@ -1,4 +1,6 @@
 // What the octets of a connection give.
+ghost use Rattle.std.specs.Prelude.{◌≡◌, false};
+
 use h2_session::Act;
 use hpack_codec::FieldList;
 
@@ -49,7 +51,9 @@ pub struct Taken {
 
 impl Taken {
     /// What stands where a frame is to be put: one that means nothing. Takes no memory.
-    pub fn none() -> Self {
+    pub fn none() -> Self
+        ensures { result ≡ record { act = Act.Ignore; content = 0; reading = Reading.Nothing; is_update = false } }
+    {
         Taken {
             act: Act::Ignore,
             content: 0,
