@@ -34,30 +34,33 @@ pub(crate) fn take_act(
     ensures notes { Appends notes.old notes.new }
     ensures octets { Goes result core.old notes.old core.new notes.new }
 {
-    match taken {
-        Taken {
-            act: Act::Body {
-                stream,
-                octets,
-                padded,
-                last,
-            },
-            content,
-            ..
+    let Taken {
+        act,
+        content,
+        reading,
+        is_update,
+    } = taken;
+    match act {
+        Act::Body {
+            stream,
+            octets,
+            padded,
+            last,
         } => {
             let content = Content::of(octets, padded, content);
             body(core, number, stream, content, last, notes)
         }
-        Taken {
-            act: Act::Head { stream, last, .. },
-            reading,
-            ..
-        } => head(core, number, stream, reading, last, notes),
-        Taken {
-            act: Act::WindowUp { stream, n },
-            ..
-        } => window_up(core, number, stream, n, notes),
-        taken => take_other(core, number, taken, notes),
+        Act::Head { stream, last, .. } => head(core, number, stream, reading, last, notes),
+        Act::WindowUp { stream, n } => window_up(core, number, stream, n, notes),
+        act => {
+            let taken = Taken {
+                act,
+                content,
+                reading,
+                is_update,
+            };
+            take_other(core, number, taken, notes)
+        }
     }
 }
 
