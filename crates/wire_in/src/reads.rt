@@ -28,10 +28,10 @@ pub fn read(core: &mut WireCore, number: u32, notes: &mut Notes) -> Result<(), N
     let mut taken = Taken::none();
     match next(core, number, &mut taken) {
         Ok(Front::Taken) => {
-            if follow_up(core, number).is_err() {
+            let Ok(()) = follow_up(core, number) else {
                 let_go(taken);
                 return Err(NoMemory);
-            }
+            };
             take_act(core, number, taken, notes)
         }
         Ok(Front::Need) => {
