@@ -21,7 +21,7 @@ use wire_outlet::Control;
 use wire_state::{Task, WireCore};
 
 /// The effect of a frame that was taken from a connection.
-#[inline(never)]
+#[inline(always)]
 pub(crate) fn take_act(
     core: &mut WireCore,
     number: u32,
