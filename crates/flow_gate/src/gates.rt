@@ -1,10 +1,11 @@
 // The gates of a worker.
-ghost use Rattle.std.specs.Prelude.{◌≡◌, ◌==◌, ◌&&◌, ◌≤◌, ◌^◌, ◌↔◌, [], false, true, IfOk, Some, OnOk, OnErr, IsNone, count_by, length, not, option_map, option_to_list, slice_get, take, if◌then◌else◌};
+ghost use Rattle.std.specs.Prelude.{◌≡◌, ◌==◌, ◌&&◌, ◌≤◌, ◌^◌, ◌↔◌, [], false, true, IfOk, IfSome, IsSome, Some, OnOk, OnErr, IsNone, count_by, length, not, option_map, option_to_list, slice_get, take, if◌then◌else◌};
 ghost use Rattle.flow_gate.specs.Board.{IsSound, count, is_known, is_marked, is_open, pending_on, times, watchers_of};
-ghost use Rattle.flow_gate.specs.Changes.{Begins, Closes, Drains, Forgets, IsEmpty, Knows, Rises, Tells, Watches};
+ghost use Rattle.flow_gate.specs.Changes.{Begins, Closes, Drains, Forgets, IsEmpty, IsSeenAs, Knows, Opens, Rises, Tells, Watches};
 ghost use Rattle.flow_gate.specs.Ids.{same_buffer};
-ghost use Rattle.flow_gate.specs.Line.{Line, held_in, left, told};
-ghost use Rattle.flow_gate.specs.Parts.{AreWatches, StandsIn, above_at, buffer_at, held, is_stage, kept, watched_in};
+ghost use Rattle.flow_gate.specs.Line.{Line, alone, held_in, left, told};
+ghost use Rattle.flow_gate.specs.Named.{Updates};
+ghost use Rattle.flow_gate.specs.Parts.{AreWatches, IsApart, Joins, StandsIn, above_at, buffer_at, held, is_stage, kept, watched_in};
 ghost use Rattle.flow_rules.specs.declared.ids.BufferId.{BufferId};
 ghost use Rattle.flow_rules.specs.declared.ids.FlowId.{FlowId};
 
@@ -195,6 +196,29 @@ impl Gates {
         self.buffers.discard(buffer);
     }
 
+    /// Begins a flow that watches its send buffer, which is known from now on, and then the write buffer of a connection: as
+    /// `open_flow`, `open_buffer` and `watch` for each of them, with one look-up of each. The answer is whether the write buffer
+    /// is above: then the flow's count is 1, else 0. After running out of memory nothing is seen to have changed.
+    pub fn open_sender(&mut self, flow: FlowId, conn: u32) -> Result<bool, NoMemory>
+        requires closed { is_open self.old flow ≡ false }
+        requires unknown { is_known self.old (BufferId.Send flow) ≡ false }
+        requires known { is_known self.old (BufferId.Write conn) ≡ true }
+        ensures answer { IfOk result (λ above. above ≡ is_marked self.old (BufferId.Write conn)) }
+        ensures ok { OnOk result (Opens flow conn self.old self.new) }
+        ensures err { OnErr result (IsSeenAs self.old self.new) }
+        ensures sound { IsSound self.new }
+    {
+        let own = line_up(&mut self.buffers, &mut self.spares, flow)?;
+        let alloc = self.alloc;
+        match join(&mut self.flows, &mut self.buffers, alloc, flow, own, conn) {
+            Ok(above) => Ok(above),
+            Err(NoMemory) => {
+                self.buffers.discard(BufferId::Send(flow));
+                Err(NoMemory)
+            }
+        }
+    }
+
     /// Adds the flow as the last watcher of the buffer. Where the buffer is above, the flow's count grows by 1, and the answer
     /// is true. Takes the room of a pending low too. After running out of memory nothing has changed.
     pub fn watch(&mut self, flow: FlowId, buffer: BufferId) -> Result<bool, NoMemory>
@@ -280,6 +304,49 @@ impl Gates {
         self.buffers.close_recv(flow, spares);
         close_stages(&mut self.buffers, spares, flow);
         self.buffers.close_send(flow, spares);
+    }
+}
+
+// The send buffer of a flow is known from now on, and the flow stands alone in its line. The answer is its place there.
+#[inline(always)]
+fn line_up(buffers: &mut Buffers, spares: &mut Spares, flow: FlowId) -> Result<u64, NoMemory>
+    ensures ok { IfOk result (λ place. Updates same_buffer (BufferId.Send flow) (Some (alone place flow)) buffers.old buffers.new) }
+    ensures err { OnErr result (buffers.new ≡ buffers.old) }
+{
+    spares.ready()?;
+    let mut gate = spares.begun();
+    let place = gate.add(flow)?;
+    buffers.put_send(flow, gate)?;
+    Ok(place)
+}
+
+// A flow that stands at a place of the line of its send buffer is there from now on, and is the last watcher of a write buffer
+// too. The answer is whether that is above.
+#[inline(always)]
+fn join(
+    flows: &mut FlowMap<Watcher>,
+    buffers: &mut Buffers,
+    alloc: Global,
+    flow: FlowId,
+    own: u64,
+    conn: u32,
+) -> Result<bool, NoMemory>
+    requires known { IsSome (buffer_at buffers.old (BufferId.Write conn)) }
+    requires apart { IfSome (buffer_at buffers.old (BufferId.Write conn)) (IsApart flow) }
+    ensures ok { IfOk result (λ above. Joins flow own conn above flows.old flows.new buffers.old buffers.new) }
+    ensures flows { OnErr result (flows.new ≡ flows.old) }
+    ensures buffers { OnErr result ((b : BufferId) → buffer_at buffers.new b ≡ buffer_at buffers.old b) }
+{
+    let Some(gate) = buffers.write_mut(conn) else {
+        unreachable!()
+    };
+    let place = gate.add(flow)?;
+    match flows.put(flow, Watcher::of_sender(alloc, flow, own, conn, place)) {
+        Ok(()) => Ok(gate.is_above()),
+        Err(NoMemory) => {
+            gate.remove(place);
+            Err(NoMemory)
+        }
     }
 }
 
