@@ -8,6 +8,7 @@ use crate::types::ReadFrame;
 /// What stands at the front: a whole frame with a payload of at most `max` octets, the first fault,
 /// or neither yet: that only of an input shorter than `max` and the nine octets of a head. No octet is
 /// copied.
+#[inline(always)]
 pub fn read_frame(input: &[u8], max: u32) -> ReadFrame<'_>
     ensures reads { Reads max input.now result }
     ensures writable { GivesWritable result }

@@ -21,7 +21,50 @@ use wire_outlet::Control;
 use wire_state::{Task, WireCore};
 
 /// The effect of a frame that was taken from a connection.
+#[inline(never)]
 pub(crate) fn take_act(
+    core: &mut WireCore,
+    number: u32,
+    taken: Taken,
+    notes: &mut Notes,
+) -> Result<(), NoMemory>
+    requires sound { IsSound core.old }
+    ensures sound { OnOk result (IsSound core.new) }
+    ensures go { OnOk result (to_go core.new ≤ to_go core.old + 300 + 392 * taken.content) }
+    ensures notes { Appends notes.old notes.new }
+    ensures octets { Goes result core.old notes.old core.new notes.new }
+{
+    match taken {
+        Taken {
+            act: Act::Body {
+                stream,
+                octets,
+                padded,
+                last,
+            },
+            content,
+            ..
+        } => {
+            let content = Content::of(octets, padded, content);
+            body(core, number, stream, content, last, notes)
+        }
+        Taken {
+            act: Act::Head { stream, last, .. },
+            reading,
+            ..
+        } => head(core, number, stream, reading, last, notes),
+        Taken {
+            act: Act::WindowUp { stream, n },
+            ..
+        } => window_up(core, number, stream, n, notes),
+        taken => take_other(core, number, taken, notes),
+    }
+}
+
+// The effect of a frame whose act comes seldom.
+#[cold]
+#[inline(never)]
+fn take_other(
     core: &mut WireCore,
     number: u32,
     taken: Taken,
@@ -40,17 +83,7 @@ pub(crate) fn take_act(
         is_update,
     } = taken;
     match act {
-        Act::Body {
-            stream,
-            octets,
-            padded,
-            last,
-        } => {
-            let content = Content::of(octets, padded, content);
-            body(core, number, stream, content, last, notes)
-        }
         Act::Late { stream, .. } => late(core, number, stream, content, notes),
-        Act::Head { stream, last, .. } => head(core, number, stream, reading, last, notes),
         Act::Trailers { stream, .. } => trailers(core, number, stream, reading, notes),
         Act::OldBlock { .. } => old_block(core, number, reading, notes),
         Act::StreamError { stream, code, .. } => {

@@ -1,7 +1,9 @@
 // One connection's octets in.
-ghost use Rattle.std.specs.Prelude.{◌≡◌, ◌==◌, ◌++◌, ◌∷◌, ◌⊎◌, [], List, false, true, is_some, if◌then◌else◌, length, IfErr, IfOk, IfSome, IsErr, IsNone, MatchOption, OnErr, OnOk};
+ghost use Rattle.std.specs.Prelude.{◌≡◌, ◌==◌, ◌++◌, ◌∷◌, ◌⊎◌, ◌<◌, ◌≤◌, ◌^◌, [], List, false, true, is_some, if◌then◌else◌, length, IfErr, IfOk, IfSome, IsErr, IsNone, MatchOption, OnErr, OnOk};
+ghost use Rattle.h2_frames.specs.Frame.{padding_of};
+ghost use Rattle.h2_frames.specs.Spelling.{IsWritable};
 ghost use Rattle.h2_frames.specs.View.{view};
-ghost use Rattle.h2_session.specs.Acts.{IsContentOf};
+ghost use Rattle.h2_session.specs.Acts.{IsContentOf, stream_of};
 ghost use Rattle.h2_session.specs.Happened.{Happening, Opened, Ended, Closed, Interim, next_stream};
 ghost use Rattle.h2_session.specs.Streams.{greatest_of_peer, is_open};
 ghost use Rattle.h2_session.specs.Summary.{StandsFor, noted};
@@ -10,9 +12,10 @@ ghost use Rattle.hpack_codec.specs.Decoding.{decoder_with};
 ghost use Rattle.hpack_codec.specs.Table.{empty_table};
 ghost use Rattle.wire_inlet.specs.Ends.{EndsAt};
 ghost use Rattle.wire_inlet.specs.Incoming.{HasSessionOf, is_cluster, preface_left};
-ghost use Rattle.wire_inlet.specs.Next.{IsInside, IsShort, LacksPreface, NextOf};
+ghost use Rattle.wire_inlet.specs.Meaning.{IsKnown, Means};
+ghost use Rattle.wire_inlet.specs.Next.{IsInside, IsShort, LacksPreface, NextOf, intake_of};
 
-use crate::intake::{Intake, Peer};
+use crate::intake::{Front, Intake, Peer, Taken};
 use crate::reader::Reader;
 use crate::unread::Unread;
 use h2_frames::codes::PROTOCOL_ERROR;
@@ -30,17 +33,17 @@ fn behind_preface<'a>(
     reader: &mut Reader,
     prefaced: bool,
     unread: &'a [u8],
-) -> Result<&'a [u8], Intake>
+) -> Result<&'a [u8], Front>
     ensures frames { IfOk result (λ frames. unread.now ≡ preface_left prefaced ++ frames.now) }
-    ensures answer { IfErr result (λ answer. (prefaced ≡ false) × LacksPreface unread.now answer) }
+    ensures answer { IfErr result (λ answer. (prefaced ≡ false) × ((taken : Taken) → LacksPreface unread.now (intake_of answer taken))) }
     ensures same { reader.new ≡ reader.old }
 {
     if prefaced {
         return Ok(unread);
     }
     match reader.take_preface(unread) {
-        Prefaced::Need => Err(Intake::Need),
-        Prefaced::Bad => Err(Intake::Fault(PROTOCOL_ERROR)),
+        Prefaced::Need => Err(Front::Need),
+        Prefaced::Bad => Err(Front::Fault(PROTOCOL_ERROR)),
         Prefaced::Done => {
             let (_, frames) = unread.split_at(PREFACE_LEN);
             Ok(frames)
@@ -69,6 +72,59 @@ fn content_before(unread: &Unread, end: usize, frame: &Frame) -> Option<Octets>
         }
         _ => None,
     }
+}
+
+// What a frame means, whose octets end at a place, is put into `into`. The types that come most are told apart first, so that behind
+// it nothing is asked of their type any more. After running out of memory nothing changed but what is in `into`, or the reader is lost.
+#[inline(always)]
+fn take(
+    unread: &Unread,
+    reader: &mut Reader,
+    end: usize,
+    frame: &Frame,
+    into: &mut Taken,
+) -> Result<(), NoMemory>
+    requires writable { IsWritable (view frame.now) }
+    requires padding { padding_of (view frame.now) ≤ 256 }
+    requires ends { EndsAt end unread.now (view frame.now) }
+    requires kept { reader.old.lost ≡ false }
+    ensures means { OnOk result (Means (view frame.now) reader.old into.new reader.new) }
+    ensures numbered { OnOk result (stream_of into.new.act < 2 ^ 31) }
+    ensures few { OnOk result (IsKnown into.new.reading) }
+    ensures err { OnErr result ((reader.new ≡ reader.old) ⊎ (reader.new.lost ≡ true)) }
+{
+    match *frame {
+        Frame::Headers { .. } => reader.take(frame, None, into),
+        Frame::DataFrame { .. } => {
+            let content = content_before(unread, end, frame);
+            reader.take(frame, content, into)
+        }
+        Frame::WindowUpdate { .. } => reader.take(frame, None, into),
+        _ => take_other(unread, reader, end, frame, into),
+    }
+}
+
+// As `take`, of a type that comes seldom.
+#[cold]
+#[inline(never)]
+fn take_other(
+    unread: &Unread,
+    reader: &mut Reader,
+    end: usize,
+    frame: &Frame,
+    into: &mut Taken,
+) -> Result<(), NoMemory>
+    requires writable { IsWritable (view frame.now) }
+    requires padding { padding_of (view frame.now) ≤ 256 }
+    requires ends { EndsAt end unread.now (view frame.now) }
+    requires kept { reader.old.lost ≡ false }
+    ensures means { OnOk result (Means (view frame.now) reader.old into.new reader.new) }
+    ensures numbered { OnOk result (stream_of into.new.act < 2 ^ 31) }
+    ensures few { OnOk result (IsKnown into.new.reading) }
+    ensures err { OnErr result ((reader.new ≡ reader.old) ⊎ (reader.new.lost ≡ true)) }
+{
+    let content = content_before(unread, end, frame);
+    reader.take(frame, content, into)
 }
 
 /// The octets that come in on one connection, and what its frames meant so far.
@@ -142,6 +198,27 @@ impl Inlet {
         ensures lost { self.old.lost ≡ true → IsErr result × (self.new ≡ self.old) }
         ensures err { OnErr result ((self.new ≡ self.old) ⊎ (self.new.lost ≡ true)) }
     {
+        let mut taken = Taken::none();
+        let Ok(front) = self.next_into(max, &mut taken) else {
+            return Err(NoMemory);
+        };
+        match front {
+            Front::Need => Ok(Intake::Need),
+            Front::Fault(code) => Ok(Intake::Fault(code)),
+            Front::Taken => Ok(Intake::Taken(taken)),
+        }
+    }
+
+    /// As `next`, where a frame that is taken is put into `into`, so that it needn't be moved on from call to call. At `Need`, at a
+    /// fault and after running out of memory nothing is told of what is in `into`.
+    #[inline(always)]
+    pub fn next_into(&mut self, max: u32, into: &mut Taken) -> Result<Front, NoMemory>
+        ensures next { IfOk result (λ front. NextOf max self.old (intake_of front into.new) self.new) }
+        ensures short { IfOk result (λ front. IsShort max self.new (intake_of front into.new)) }
+        ensures inside { IfOk result (λ front. IsInside max self.old (intake_of front into.new) self.new) }
+        ensures lost { self.old.lost ≡ true → IsErr result × (self.new ≡ self.old) }
+        ensures err { OnErr result ((self.new ≡ self.old) ⊎ (self.new.lost ≡ true)) }
+    {
         if self.reader.is_lost() {
             return Err(NoMemory);
         }
@@ -151,17 +228,16 @@ impl Inlet {
             Err(answer) => return Ok(answer),
         };
         match read_frame(frames, max) {
-            ReadFrame::Need => Ok(Intake::Need),
-            ReadFrame::Bad(fault) => Ok(Intake::Fault(fault.code())),
+            ReadFrame::Need => Ok(Front::Need),
+            ReadFrame::Bad(fault) => Ok(Front::Fault(fault.code())),
             ReadFrame::Whole(frame, used) => {
                 let read = unread.len() - frames.len() + used as usize;
-                let content = content_before(&self.unread, read, &frame);
-                let Ok(taken) = self.reader.take(&frame, content) else {
+                let Ok(()) = take(&self.unread, &mut self.reader, read, &frame, into) else {
                     return Err(NoMemory);
                 };
                 self.unread.take(read);
                 self.prefaced = true;
-                Ok(Intake::Taken(taken))
+                Ok(Front::Taken)
             }
         }
     }

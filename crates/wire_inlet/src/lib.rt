@@ -8,4 +8,4 @@ mod reader;
 mod unread;
 
 pub use inlet::Inlet;
-pub use intake::{Intake, Peer, Reading, Taken};
+pub use intake::{Front, Intake, Peer, Reading, Taken};
