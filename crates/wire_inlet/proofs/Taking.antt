@@ -1,0 +1,56 @@
+-- A frame whose head and payload stand whole behind the preface.
+use Rattle.std.proofs.Common.{Err, IfOk, List, None, Ok, Option, Result, Some, ap, arith, drop, length, take, true, ℕ, ◌++◌, ◌+◌, ◌-◌, ◌≡◌, ◌∙◌}
+use Rattle.h2_frames.specs.Decoding.{Decodes}
+use Rattle.h2_frames.specs.Frame.{Frame}
+use Rattle.h2_frames.specs.Head.{Head}
+use Rattle.h2_frames.specs.Payload.{Says}
+use Rattle.h2_frames.specs.Reading.{BeginsWhole}
+use Rattle.h2_frames.specs.View.{view}
+use Rattle.h2_frames.specs.declared.types.Frame.{Frame as Borrowed}
+use Rattle.h2_frames.specs.declared.types.FrameFault.{FrameFault}
+use Rattle.h2_frames.proofs.Readable.{padding, writable}
+use Rattle.h2_frames.proofs.Shown.{frame_by_payload}
+use Rattle.wire_inlet.specs.Incoming.{AreBehind, Incoming, meaning_of}
+use Rattle.wire_inlet.specs.Meaning.{Meaning}
+use Rattle.wire_inlet.specs.Next.{TakesFrame}
+use Rattle.wire_inlet.specs.Payloads.{CanBeTaken, IsTakeable, TakesPayload, TakesRead}
+use Rattle.wire_inlet.specs.declared.intake.Taken.{Taken}
+use Rattle.wire_inlet.proofs.Ended.{ends_at}
+use Rattle.wire_inlet.proofs.Nexts.{left_behind, takes}
+
+-- what a payload gave is what it says, or the fault that it shows
+taken_of : (head : Head) (payload : List ℕ) (read : Result Borrowed FrameFault) (fault : Option FrameFault) (old : Meaning) (taken : Taken) (new : Meaning)
+    → Decodes head payload read → TakesRead read fault old taken new → TakesPayload head payload fault old taken new
+taken_of head payload (Ok frame) None old taken new says gives = (view frame, says, gives)
+taken_of head payload (Ok frame) (Some fault) old taken new says gives = absurd gives
+taken_of head payload (Err shown) None old taken new shows same = absurd same
+taken_of head payload (Err shown) (Some fault) old taken new shows same = (shows ∙ ap Some same.0, same.1)
+
+pub taken_ok : {E : Type 0} (result : Result (Option FrameFault) E) (head : Head) (payload : List ℕ) (read : Result Borrowed FrameFault) (old : Meaning) (taken : Taken) (new : Meaning)
+    → Decodes head payload read → IfOk result (λ fault. TakesRead read fault old taken new) → IfOk result (λ fault. TakesPayload head payload fault old taken new)
+taken_ok (Ok fault) head payload read old taken new decodes t = taken_of head payload read fault old taken new decodes t
+taken_ok (Err error) head payload read old taken new decodes t = tt
+
+-- what a whole payload says can be taken where it ends
+pub takeable : (max : ℕ) (front frames unread slice : List ℕ) (head : Head) (payload : List ℕ) → slice ≡ unread → slice ≡ front ++ frames → BeginsWhole max frames head payload
+    → CanBeTaken (length slice - length frames + 9 + length payload) unread head payload
+takeable max front frames unread slice head payload is e b = λ frame says.
+    let spelled = frame_by_payload max frames head payload frame b says in
+    let end = length slice - length frames + 9 + length payload in
+    record {
+      writable = writable max (take (head.len + 9) frames) frame spelled.1;
+      padding = padding max (take (head.len + 9) frames) frame spelled.1;
+      ends = ends_at max front frames unread slice (head.len + 9) end frame is e (omega (arith, b.whole)) spelled.0 spelled.1;
+    }
+
+-- behind a whole payload
+pub left_of_payload : (max : ℕ) (front frames unread slice : List ℕ) (head : Head) (payload : List ℕ) → slice ≡ unread → slice ≡ front ++ frames → BeginsWhole max frames head payload
+    → drop (length slice - length frames + 9 + length payload) unread ≡ drop (head.len + 9) frames
+left_of_payload max front frames unread slice head payload is e b =
+    left_behind front frames unread slice (head.len + 9) (length slice - length frames + 9 + length payload) is e (omega (arith, b.whole))
+
+-- a frame was taken of its payload from the octets behind the preface
+pub takes_payload : (max : ℕ) (old new : Incoming) (taken : Taken) (frames : List ℕ) (head : Head) (payload : List ℕ) → AreBehind old frames → BeginsWhole max frames head payload
+    → new.unread ≡ drop (head.len + 9) frames → TakesPayload head payload None (meaning_of old) taken (meaning_of new) → new.prefaced ≡ true → TakesFrame max old taken new
+takes_payload max old new taken frames head payload behind b left (frame, says, gives) prefaced =
+    takes max old new taken frame frames (head.len + 9) behind (frame_by_payload max frames head payload frame b says).1 left gives.means prefaced
