@@ -1,6 +1,7 @@
 -- A frame whose head and payload stand whole behind the preface.
-use Rattle.std.proofs.Common.{Err, IfOk, List, None, Ok, Option, Result, Some, ap, arith, drop, length, take, true, ℕ, ◌++◌, ◌+◌, ◌-◌, ◌≡◌, ◌∙◌}
+use Rattle.std.proofs.Common.{Err, IfOk, List, None, Ok, Option, Result, Some, ap, arith, drop, inr, length, refl, take, true, ℕ, ◌++◌, ◌+◌, ◌-◌, ◌≡◌, ◌∙◌}
 use Rattle.h2_frames.specs.Decoding.{Decodes}
+use Rattle.h2_frames.specs.Fault.{fault_code, payload_fault}
 use Rattle.h2_frames.specs.Frame.{Frame}
 use Rattle.h2_frames.specs.Head.{Head}
 use Rattle.h2_frames.specs.Payload.{Says}
@@ -9,11 +10,12 @@ use Rattle.h2_frames.specs.View.{view}
 use Rattle.h2_frames.specs.declared.types.Frame.{Frame as Borrowed}
 use Rattle.h2_frames.specs.declared.types.FrameFault.{FrameFault}
 use Rattle.h2_frames.proofs.Readable.{padding, writable}
-use Rattle.h2_frames.proofs.Shown.{frame_by_payload}
+use Rattle.h2_frames.proofs.Shown.{frame_by_payload, shown_by_payload}
 use Rattle.wire_inlet.specs.Incoming.{AreBehind, Incoming, meaning_of}
 use Rattle.wire_inlet.specs.Meaning.{Meaning}
-use Rattle.wire_inlet.specs.Next.{TakesFrame}
+use Rattle.wire_inlet.specs.Next.{Lacks, TakesFrame}
 use Rattle.wire_inlet.specs.Payloads.{CanBeTaken, IsTakeable, TakesPayload, TakesRead}
+use Rattle.wire_inlet.specs.declared.intake.Intake.TheVariants.{Fault}
 use Rattle.wire_inlet.specs.declared.intake.Taken.{Taken}
 use Rattle.wire_inlet.proofs.Ended.{ends_at}
 use Rattle.wire_inlet.proofs.Nexts.{left_behind, takes}
@@ -30,6 +32,12 @@ pub taken_ok : {E : Type 0} (result : Result (Option FrameFault) E) (head : Head
     → Decodes head payload read → IfOk result (λ fault. TakesRead read fault old taken new) → IfOk result (λ fault. TakesPayload head payload fault old taken new)
 taken_ok (Ok fault) head payload read old taken new decodes t = taken_of head payload read fault old taken new decodes t
 taken_ok (Err error) head payload read old taken new decodes t = tt
+
+-- what a payload gave can be taken, where all that it says can
+pub can_take : (end : ℕ) (unread : List ℕ) (head : Head) (payload : List ℕ) (read : Result Borrowed FrameFault) → CanBeTaken end unread head payload → Decodes head payload read
+    → IfOk read (λ frame. IsTakeable end unread (view frame))
+can_take end unread head payload (Ok frame) can says = can (view frame) says
+can_take end unread head payload (Err fault) can shows = tt
 
 -- what a whole payload says can be taken where it ends
 pub takeable : (max : ℕ) (front frames unread slice : List ℕ) (head : Head) (payload : List ℕ) → slice ≡ unread → slice ≡ front ++ frames → BeginsWhole max frames head payload
@@ -48,6 +56,11 @@ pub left_of_payload : (max : ℕ) (front frames unread slice : List ℕ) (head :
     → drop (length slice - length frames + 9 + length payload) unread ≡ drop (head.len + 9) frames
 left_of_payload max front frames unread slice head payload is e b =
     left_behind front frames unread slice (head.len + 9) (length slice - length frames + 9 + length payload) is e (omega (arith, b.whole))
+
+-- a whole payload that shows a fault is no frame
+pub lacks_frame : (max : ℕ) (old : Incoming) (frames : List ℕ) (head : Head) (payload : List ℕ) (fault : FrameFault) → AreBehind old frames → BeginsWhole max frames head payload
+    → payload_fault head payload ≡ Some fault → Lacks max old (Fault (fault_code fault))
+lacks_frame max old frames head payload fault behind b shows = inr (frames, behind, (fault, shown_by_payload max frames head payload fault b shows, refl))
 
 -- a frame was taken of its payload from the octets behind the preface
 pub takes_payload : (max : ℕ) (old new : Incoming) (taken : Taken) (frames : List ℕ) (head : Head) (payload : List ℕ) → AreBehind old frames → BeginsWhole max frames head payload

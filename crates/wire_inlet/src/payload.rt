@@ -50,7 +50,7 @@ fn take_read(
 ) -> Result<Option<FrameFault>, NoMemory>
     requires takeable { IfOk read (λ frame. IsTakeable end unread.now (view frame)) }
     requires kept { reader.old.lost ≡ false }
-    ensures taken { IfOk result (λ fault. TakesRead read fault reader.old into.new reader.new) }
+    ensures taken { IfOk result (λ fault. TakesRead read.entry fault reader.old into.new reader.new) }
     ensures err { OnErr result ((reader.new ≡ reader.old) ⊎ (reader.new.lost ≡ true)) }
 {
     match read {
