@@ -1,43 +1,18 @@
 -- A frame whose head and payload stand whole behind the preface.
-use Rattle.std.proofs.Common.{Err, IfOk, List, None, Ok, Option, Result, Some, ap, arith, drop, inr, length, refl, take, true, ℕ, ◌++◌, ◌+◌, ◌-◌, ◌≡◌, ◌∙◌}
-use Rattle.h2_frames.specs.Decoding.{Decodes}
+use Rattle.std.proofs.Common.{List, None, Some, arith, drop, inr, length, refl, take, true, ℕ, ◌++◌, ◌+◌, ◌-◌, ◌≡◌}
 use Rattle.h2_frames.specs.Fault.{fault_code, payload_fault}
-use Rattle.h2_frames.specs.Frame.{Frame}
 use Rattle.h2_frames.specs.Head.{Head}
-use Rattle.h2_frames.specs.Payload.{Says}
 use Rattle.h2_frames.specs.Reading.{BeginsWhole}
-use Rattle.h2_frames.specs.View.{view}
-use Rattle.h2_frames.specs.declared.types.Frame.{Frame as Borrowed}
 use Rattle.h2_frames.specs.declared.types.FrameFault.{FrameFault}
 use Rattle.h2_frames.proofs.Readable.{padding, writable}
 use Rattle.h2_frames.proofs.Shown.{frame_by_payload, shown_by_payload}
 use Rattle.wire_inlet.specs.Incoming.{AreBehind, Incoming, meaning_of}
-use Rattle.wire_inlet.specs.Meaning.{Meaning}
 use Rattle.wire_inlet.specs.Next.{Lacks, TakesFrame}
-use Rattle.wire_inlet.specs.Payloads.{CanBeTaken, IsTakeable, TakesPayload, TakesRead}
+use Rattle.wire_inlet.specs.Payloads.{CanBeTaken, TakesPayload}
 use Rattle.wire_inlet.specs.declared.intake.Intake.TheVariants.{Fault}
 use Rattle.wire_inlet.specs.declared.intake.Taken.{Taken}
 use Rattle.wire_inlet.proofs.Ended.{ends_at}
 use Rattle.wire_inlet.proofs.Nexts.{left_behind, takes}
-
--- what a payload gave is what it says, or the fault that it shows
-taken_of : (head : Head) (payload : List ℕ) (read : Result Borrowed FrameFault) (fault : Option FrameFault) (old : Meaning) (taken : Taken) (new : Meaning)
-    → Decodes head payload read → TakesRead read fault old taken new → TakesPayload head payload fault old taken new
-taken_of head payload (Ok frame) None old taken new says gives = (view frame, says, gives)
-taken_of head payload (Ok frame) (Some fault) old taken new says gives = absurd gives
-taken_of head payload (Err shown) None old taken new shows same = absurd same
-taken_of head payload (Err shown) (Some fault) old taken new shows same = (shows ∙ ap Some same.0, same.1)
-
-pub taken_ok : {E : Type 0} (result : Result (Option FrameFault) E) (head : Head) (payload : List ℕ) (read : Result Borrowed FrameFault) (old : Meaning) (taken : Taken) (new : Meaning)
-    → Decodes head payload read → IfOk result (λ fault. TakesRead read fault old taken new) → IfOk result (λ fault. TakesPayload head payload fault old taken new)
-taken_ok (Ok fault) head payload read old taken new decodes t = taken_of head payload read fault old taken new decodes t
-taken_ok (Err error) head payload read old taken new decodes t = tt
-
--- what a payload gave can be taken, where all that it says can
-pub can_take : (end : ℕ) (unread : List ℕ) (head : Head) (payload : List ℕ) (read : Result Borrowed FrameFault) → CanBeTaken end unread head payload → Decodes head payload read
-    → IfOk read (λ frame. IsTakeable end unread (view frame))
-can_take end unread head payload (Ok frame) can says = can (view frame) says
-can_take end unread head payload (Err fault) can shows = tt
 
 -- what a whole payload says can be taken where it ends
 pub takeable : (max : ℕ) (front frames unread slice : List ℕ) (head : Head) (payload : List ℕ) → slice ≡ unread → slice ≡ front ++ frames → BeginsWhole max frames head payload

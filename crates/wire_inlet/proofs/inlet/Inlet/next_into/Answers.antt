@@ -1,4 +1,4 @@
-use Rattle.std.proofs.Common.{None, Option, Some, refl, subst, sym, true, ◌∙◌}
+use Rattle.std.proofs.Common.{None, Option, ap, refl, subst, sym, true, ℕ, ◌∙◌}
 use Rattle.h2_frames.specs.Fault.{fault_code}
 use Rattle.h2_frames.specs.View.{head_view}
 use Rattle.h2_frames.specs.declared.types.FrameFault.{FrameFault}
@@ -19,7 +19,20 @@ take_payload-requires-clause-takeable c =
     c.as_slice-unread.ensures c.in-Ok.ensures.frames c.in-Whole.ensures.reads
 
 pub returns-in-Ok-Some-clause-next : goal.returns-in-Ok-Some-clause-next
-returns-in-Ok-Some-clause-next c = ?
+returns-in-Ok-Some-clause-next c =
+    let v : Incoming = the_view c.self.inside in
+    let max = c.args.max in
+    let head = head_view c.in-Whole.head in
+    let payload = c.in-Whole.payload.now in
+    let fault = c.in-Ok-Some.fault in
+    let behind = sym c.as_slice-unread.ensures ∙ c.in-Ok.ensures.frames in
+    let told = subst (λ (f : Option FrameFault). TakesPayload head payload f c.behind_preface.new.reader c.take_payload.new.into c.take_payload.new.reader) c.in-Ok-Some.field-0-is c.in-Ok-Some.ensures.taken in
+    let lacks : Lacks max v (Fault (fault_code fault)) = lacks_frame max v c.in-Ok.frames.now head payload fault behind c.in-Whole.ensures.reads told.0 in
+    let code : Lacks max v (Fault c.code-in-Ok-Some.result) = subst (λ (n : ℕ). Lacks max v (Fault n)) (sym c.code-in-Ok-Some.ensures) lacks in
+    let same = told.1 ∙ c.behind_preface.ensures.same in (
+      subst (λ (x : Incoming). Lacks max x (Fault c.code-in-Ok-Some.result)) c.self.view_is code,
+      ap (λ (r : Meaning). the_view (record { unread = c.self.inside.unread; prefaced = c.self.inside.prefaced; reader = r })) same ∙ c.self.view_is,
+    )
 
 gives : (c : goal.After-self-1) → TakesPayload (head_view c.in-Whole.head) c.in-Whole.payload.now None (meaning_of (the_view c.self.inside)) c.take_payload.new.into c.take_payload.new.reader
 gives c =
