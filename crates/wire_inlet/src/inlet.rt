@@ -1,25 +1,20 @@
 // One connection's octets in.
-ghost use Rattle.std.specs.Prelude.{◌≡◌, ◌==◌, ◌++◌, ◌∷◌, ◌⊎◌, ◌<◌, ◌≤◌, ◌^◌, [], List, false, true, is_some, if◌then◌else◌, length, IfErr, IfOk, IfSome, IsErr, IsNone, MatchOption, OnErr, OnOk};
-ghost use Rattle.h2_frames.specs.Frame.{padding_of};
-ghost use Rattle.h2_frames.specs.Spelling.{IsWritable};
-ghost use Rattle.h2_frames.specs.View.{view};
-ghost use Rattle.h2_session.specs.Acts.{IsContentOf, stream_of};
+ghost use Rattle.std.specs.Prelude.{◌≡◌, ◌==◌, ◌++◌, ◌∷◌, ◌⊎◌, [], List, false, true, is_some, if◌then◌else◌, length, IfErr, IfOk, IsErr, IsNone, MatchOption, OnErr, OnOk};
 ghost use Rattle.h2_session.specs.Happened.{Happening, Opened, Ended, Closed, Interim, next_stream};
 ghost use Rattle.h2_session.specs.Streams.{greatest_of_peer, is_open};
 ghost use Rattle.h2_session.specs.Summary.{StandsFor, noted};
 ghost use Rattle.h2_session.specs.Table.{stream_at};
 ghost use Rattle.hpack_codec.specs.Decoding.{decoder_with};
 ghost use Rattle.hpack_codec.specs.Table.{empty_table};
-ghost use Rattle.wire_inlet.specs.Ends.{EndsAt};
 ghost use Rattle.wire_inlet.specs.Incoming.{HasSessionOf, is_cluster, preface_left};
-ghost use Rattle.wire_inlet.specs.Meaning.{IsKnown, Means};
 ghost use Rattle.wire_inlet.specs.Next.{IsInside, IsShort, LacksPreface, NextOf, intake_of};
 
 use crate::intake::{Front, Intake, Peer, Taken};
+use crate::payload::take_payload;
 use crate::reader::Reader;
 use crate::unread::Unread;
 use h2_frames::codes::PROTOCOL_ERROR;
-use h2_frames::{Frame, ReadFrame, read_frame};
+use h2_frames::{ReadHead, read_head};
 use h2_session::Prefaced;
 use io_ports::{NoMemory, Octets};
 use std::alloc::Global;
@@ -27,6 +22,9 @@ use std::marker::Model;
 
 /// The octets of the preface (RFC 9113 section 3.4).
 const PREFACE_LEN: usize = 24;
+
+/// The octets of a frame's head (RFC 9113 section 4.1).
+const HEAD_LEN: usize = 9;
 
 // The frames behind the preface, where it was read or stands whole at the front, or what is answered else.
 fn behind_preface<'a>(
@@ -49,82 +47,6 @@ fn behind_preface<'a>(
             Ok(frames)
         }
     }
-}
-
-// The octets of a DATA frame without padding, or the entries of SETTINGS, that ends at a place. None after running out of memory
-// too: then the session copies them.
-fn content_before(unread: &Unread, end: usize, frame: &Frame) -> Option<Octets>
-    requires { EndsAt end unread.now (view frame.now) }
-    ensures { IfSome result (IsContentOf (view frame.now)) }
-{
-    match *frame {
-        Frame::DataFrame {
-            padded: 0,
-            octets,
-            ..
-        } => {
-            let n = octets.len();
-            unread.part(end - n, n).ok()
-        }
-        Frame::Settings { entries, .. } => {
-            let n = entries.len();
-            unread.part(end - n, n).ok()
-        }
-        _ => None,
-    }
-}
-
-// What a frame means, whose octets end at a place, is put into `into`. The types that come most are told apart first, so that behind
-// it nothing is asked of their type any more. After running out of memory nothing changed but what is in `into`, or the reader is lost.
-#[inline(always)]
-fn take(
-    unread: &Unread,
-    reader: &mut Reader,
-    end: usize,
-    frame: &Frame,
-    into: &mut Taken,
-) -> Result<(), NoMemory>
-    requires writable { IsWritable (view frame.now) }
-    requires padding { padding_of (view frame.now) ≤ 256 }
-    requires ends { EndsAt end unread.now (view frame.now) }
-    requires kept { reader.old.lost ≡ false }
-    ensures means { OnOk result (Means (view frame.now) reader.old into.new reader.new) }
-    ensures numbered { OnOk result (stream_of into.new.act < 2 ^ 31) }
-    ensures few { OnOk result (IsKnown into.new.reading) }
-    ensures err { OnErr result ((reader.new ≡ reader.old) ⊎ (reader.new.lost ≡ true)) }
-{
-    match *frame {
-        Frame::Headers { .. } => reader.take(frame, None, into),
-        Frame::DataFrame { .. } => {
-            let content = content_before(unread, end, frame);
-            reader.take(frame, content, into)
-        }
-        Frame::WindowUpdate { .. } => reader.take(frame, None, into),
-        _ => take_other(unread, reader, end, frame, into),
-    }
-}
-
-// As `take`, of a type that comes seldom.
-#[cold]
-#[inline(never)]
-fn take_other(
-    unread: &Unread,
-    reader: &mut Reader,
-    end: usize,
-    frame: &Frame,
-    into: &mut Taken,
-) -> Result<(), NoMemory>
-    requires writable { IsWritable (view frame.now) }
-    requires padding { padding_of (view frame.now) ≤ 256 }
-    requires ends { EndsAt end unread.now (view frame.now) }
-    requires kept { reader.old.lost ≡ false }
-    ensures means { OnOk result (Means (view frame.now) reader.old into.new reader.new) }
-    ensures numbered { OnOk result (stream_of into.new.act < 2 ^ 31) }
-    ensures few { OnOk result (IsKnown into.new.reading) }
-    ensures err { OnErr result ((reader.new ≡ reader.old) ⊎ (reader.new.lost ≡ true)) }
-{
-    let content = content_before(unread, end, frame);
-    reader.take(frame, content, into)
 }
 
 /// The octets that come in on one connection, and what its frames meant so far.
@@ -227,17 +149,20 @@ impl Inlet {
             Ok(frames) => frames,
             Err(answer) => return Ok(answer),
         };
-        match read_frame(frames, max) {
-            ReadFrame::Need => Ok(Front::Need),
-            ReadFrame::Bad(fault) => Ok(Front::Fault(fault.code())),
-            ReadFrame::Whole(frame, used) => {
-                let read = unread.len() - frames.len() + used as usize;
-                let Ok(()) = take(&self.unread, &mut self.reader, read, &frame, into) else {
-                    return Err(NoMemory);
-                };
-                self.unread.take(read);
-                self.prefaced = true;
-                Ok(Front::Taken)
+        match read_head(frames, max) {
+            ReadHead::Need => Ok(Front::Need),
+            ReadHead::Bad(fault) => Ok(Front::Fault(fault.code())),
+            ReadHead::Whole(head, payload) => {
+                let read = unread.len() - frames.len() + HEAD_LEN + payload.len();
+                match take_payload(&self.unread, &mut self.reader, read, head, payload, into) {
+                    Err(error) => Err(error),
+                    Ok(Some(fault)) => Ok(Front::Fault(fault.code())),
+                    Ok(None) => {
+                        self.unread.take(read);
+                        self.prefaced = true;
+                        Ok(Front::Taken)
+                    }
+                }
             }
         }
     }

@@ -4,6 +4,7 @@
 mod inlet;
 mod intake;
 mod joined;
+mod payload;
 mod reader;
 mod unread;
 
