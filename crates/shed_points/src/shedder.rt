@@ -1,5 +1,5 @@
 // What sheds the arrivals of a worker.
-ghost use Rattle.shed_points.specs.Shedding.{is_same, point_state, row_state, state_at};
+ghost use Rattle.shed_points.specs.Shedding.{point_state, row_state, state_at};
 ghost use Rattle.shed_points.specs.Dispatching.{Carries};
 ghost use Rattle.shed_points.specs.ShedList.{as_list, kept};
 ghost use Rattle.std.specs.Prelude.{◌≡◌, ◌∷◌, ◌≤◌, [], OnOk, if◌then◌else◌};
@@ -329,24 +329,15 @@ fn point_state(rows: &[ShedRow], pressures: &[u32], point: Point) -> u32
 }
 
 // The state of a row of this point, and 0 of another.
+#[tactic(auto, using(crate::proofs::States::own_row, crate::proofs::States::other_row))]
 fn state_at(row: &ShedRow, pressures: &[u32], point: Point) -> u32
     ensures state { result ≡ state_at row.now pressures.now point }
     ensures most { result ≤ 1000000 }
 {
-    if is_same(row.point, point) {
+    if row.point == point {
         row_state(row, pressures)
     } else {
         0
-    }
-}
-
-fn is_same(one: Point, other: Point) -> bool
-    ensures { result ≡ is_same one other }
-{
-    match one {
-        Point::Accept => matches!(other, Point::Accept),
-        Point::Read => matches!(other, Point::Read),
-        Point::Drain => matches!(other, Point::Drain),
     }
 }
 
