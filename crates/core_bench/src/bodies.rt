@@ -1,6 +1,7 @@
 // Bodies of a MiB, down and up, beside a plain copy of the same octets.
-use bench_parts::{CpuStopwatch, print_line, tenths};
-use core_rig::{Peers, Rig, client_and_cluster, no_memory, stream_after};
+use crate::telling::tell;
+use bench_parts::{CpuStopwatch, tenths};
+use core_rig::{Peers, Rig, client_and_cluster, stream_after};
 use flow_notes::Event;
 use io_ports::{NoMemory, Octets};
 use std::alloc::Global;
@@ -38,26 +39,10 @@ const UP: Direction = Direction {
 };
 
 /// The fewest nanoseconds of processor time that a body took.
-#[derive(Drop)]
+#[derive(Clone, Copy)]
 struct Least {
     passed: u64,
     copied: u64,
-}
-
-impl Least {
-    // A body behind its heads. What its events read is copied plainly too, once it has passed.
-    fn pass(
-        &mut self,
-        rig: &mut Rig,
-        clock: &impl CpuClock,
-        body: &Peers,
-        block: &mut Octets,
-    ) -> anyhow::Result<()> {
-        let passed = rig.cost(clock, body)?.nanos;
-        self.passed = self.passed.min(passed);
-        self.copied = self.copied.min(copy_all(body, block, clock)?);
-        Ok(())
-    }
 }
 
 /// Bodies of one direction.
@@ -68,6 +53,7 @@ fn pass(rt: &(impl AllocGlobal + CpuClock), way: Direction) -> anyhow::Result<Le
     least
 }
 
+// Each body behind its heads. What its events read is copied plainly too, once it has passed.
 fn pass_all(
     rig: &mut Rig,
     rt: &(impl AllocGlobal + CpuClock),
@@ -82,8 +68,9 @@ fn pass_all(
     for one in 0..BODIES {
         let stream = stream_after(1, one);
         rig.play_made(heads(rt.alloc(), stream, way))?;
-        let body = body_of(rt.alloc(), stream, way).map_err(no_memory)?;
-        least.pass(rig, rt, &body, &mut block)?;
+        let body = body_of(rt.alloc(), stream, way)?;
+        least.passed = least.passed.min(rig.cost(rt, &body)?.nanos);
+        least.copied = least.copied.min(copy_all(&body, &mut block, rt)?);
     }
     Ok(least)
 }
@@ -115,7 +102,7 @@ fn copy_all(body: &Peers, block: &mut Octets, clock: &impl CpuClock) -> anyhow::
     block.clear();
     let watch = CpuStopwatch::start(clock)?;
     for event in body.events() {
-        copy(event, block).map_err(no_memory)?;
+        copy(event, block)?;
     }
     Ok(watch.nanos(clock)?)
 }
@@ -143,5 +130,5 @@ fn report(rt: &(impl AllocGlobal + Print), way: &str, least: Least) -> anyhow::R
         (" ns, ", times / 10),
         (".", times % 10),
     ];
-    Ok(print_line(rt, &numbers, " times")?)
+    tell(rt, &numbers, " times")
 }

@@ -1,6 +1,6 @@
 // What one event costs that has to do with all exchanges of a client: a close, a low, SETTINGS.
-use bench_parts::print_line;
-use core_rig::{Cost, Peers, cost_behind, no_memory, stream_after};
+use crate::telling::tell;
+use core_rig::{Cost, Peers, cost_behind, stream_after};
 use io_ports::NoMemory;
 use std::alloc::Global;
 use std::time::CpuClock;
@@ -45,7 +45,7 @@ fn report(rt: &(impl AllocGlobal + Print), n: u32, cost: Cost) -> anyhow::Result
         (" ns, ", notes),
         (" notes, ", cost.nanos / notes),
     ];
-    Ok(print_line(rt, &numbers, " ns a note")?)
+    tell(rt, &numbers, " ns a note")
 }
 
 // The least of some turns.
@@ -62,8 +62,8 @@ fn least(rt: &(impl AllocGlobal + CpuClock), burst: Burst, n: u32) -> anyhow::Re
 
 fn once(rt: &(impl AllocGlobal + CpuClock), burst: Burst, n: u32) -> anyhow::Result<Cost> {
     let client = client_at(n);
-    let before = before(rt.alloc(), burst, client, n).map_err(no_memory)?;
-    let event = event_of(rt.alloc(), burst, client).map_err(no_memory)?;
+    let before = before(rt.alloc(), burst, client, n)?;
+    let event = event_of(rt.alloc(), burst, client)?;
     cost_behind(rt, LARGE, &before, &event)
 }
 

@@ -1,7 +1,8 @@
 // Small exchanges and ticks beside idle connections and exchanges.
 use crate::gets::{CONFIG, EXCHANGES, Route, exchanges};
-use bench_parts::{print_line, tenths};
-use core_rig::{Cost, Peers, Rig, cost_behind, no_memory, stream_after};
+use crate::telling::tell;
+use bench_parts::tenths;
+use core_rig::{Cost, Peers, Rig, cost_behind, stream_after};
 use io_ports::NoMemory;
 use std::alloc::Global;
 use std::time::CpuClock;
@@ -66,8 +67,8 @@ pub fn idle(rt: &(impl AllocGlobal + Print + CpuClock), count: u32) -> anyhow::R
     let mut few = u64::MAX;
     let mut many = u64::MAX;
     for _turn in 0..TURNS {
-        few = few.min(beside(rt, FEW)? / u64::from(EXCHANGES));
-        many = many.min(beside(rt, count)? / u64::from(EXCHANGES));
+        few = few.min(beside(rt, FEW)?.nanos / u64::from(EXCHANGES));
+        many = many.min(beside(rt, count)?.nanos / u64::from(EXCHANGES));
     }
     report_idle(rt, count, few, many)
 }
@@ -85,15 +86,15 @@ fn report_idle(
         (": ", many),
         (" ns, ", tenths(many.saturating_mul(10), few)),
     ];
-    Ok(print_line(rt, &numbers, " hundredths")?)
+    tell(rt, &numbers, " hundredths")
 }
 
-/// Small exchanges beside so many idle connections and exchanges: nanoseconds.
-fn beside(rt: &(impl AllocGlobal + CpuClock), n: u32) -> anyhow::Result<u64> {
+/// What small exchanges take beside so many idle connections and exchanges.
+fn beside(rt: &(impl AllocGlobal + CpuClock), n: u32) -> anyhow::Result<Cost> {
     let mut before = Peers::new(rt.alloc());
-    let route = route_beside(&mut before, n).map_err(no_memory)?;
-    let then = exchanges(rt.alloc(), route, EXCHANGES, 1).map_err(no_memory)?;
-    Ok(cost_behind(rt, CONFIG, &before, &then)?.nanos)
+    let route = route_beside(&mut before, n)?;
+    let then = exchanges(rt.alloc(), route, EXCHANGES, 1)?;
+    cost_behind(rt, CONFIG, &before, &then)
 }
 
 /// A client beside so many idle connections and exchanges, and the first connection to the cluster that has room.
@@ -116,7 +117,7 @@ fn route_beside(peers: &mut Peers, n: u32) -> Result<Route, NoMemory> {
 
 /// Ticks beside ten and beside so many exchanges with idle Meters: those that fire nothing, and one that fires all.
 pub fn tick(rt: &(impl AllocGlobal + Print + CpuClock), count: u32) -> anyhow::Result<()> {
-    let idle = idle_ticks(rt.alloc()).map_err(no_memory)?;
+    let idle = idle_ticks(rt.alloc())?;
     for n in [FEW, count, FEW, count] {
         ticks_beside(rt, n, &idle)?;
     }
@@ -139,7 +140,7 @@ fn ticks_beside(
     idle: &Peers,
 ) -> anyhow::Result<()> {
     let mut before = Peers::new(rt.alloc());
-    let _first = crowd(&mut before, n, 0).map_err(no_memory)?;
+    let _first = crowd(&mut before, n, 0)?;
     let mut rig = Rig::new(rt.alloc(), METERS)?;
     let ticked = ticks(&mut rig, rt, &before, idle);
     drop(rig);
@@ -154,10 +155,11 @@ fn ticks(
     before: &Peers,
     idle: &Peers,
 ) -> anyhow::Result<(Cost, Cost)> {
-    let mut last = Peers::new(rt.alloc());
-    last.tick(IDLE).map_err(no_memory)?;
     rig.play(before)?;
-    Ok((rig.cost(rt, idle)?, rig.cost(rt, &last)?))
+    let ticked = rig.cost(rt, idle)?;
+    let mut last = Peers::new(rt.alloc());
+    last.tick(IDLE)?;
+    Ok((ticked, rig.cost(rt, &last)?))
 }
 
 fn report_ticks(
@@ -174,5 +176,5 @@ fn report_ticks(
         (" ns the tick that fires all, ", notes),
         (" notes, ", fired.nanos / notes),
     ];
-    Ok(print_line(rt, &numbers, " ns a note")?)
+    tell(rt, &numbers, " ns a note")
 }

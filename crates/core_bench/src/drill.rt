@@ -1,7 +1,8 @@
 // A drill from end to end, beside its octets through two watermark buffers.
-use anyhow::{bail, ensure};
-use bench_parts::{CpuStopwatch, per_second, print_line};
-use core_rig::{no_memory, piece};
+use crate::telling::tell;
+use anyhow::ensure;
+use bench_parts::{CpuStopwatch, per_second};
+use core_rig::piece;
 use flow_notes::{Event, EventList, PlainEvent};
 use io_ports::{MemSink, MemSource, NoMemory};
 use replay_run::{Status, drill_events, replay};
@@ -29,7 +30,7 @@ const ROOM: usize = 4_096;
 
 /// Runs the drill and passes its octets through two buffers, in turn, and prints the best of each.
 pub fn run(rt: &(impl AllocGlobal + Print + CpuClock)) -> anyhow::Result<()> {
-    let events = drill_events(rt.alloc(), STREAMS).map_err(no_memory)?;
+    let events = drill_events(rt.alloc(), STREAMS)?;
     let octets = octets_in(&events);
     let mut drill = u64::MAX;
     let mut bodies = u64::MAX;
@@ -63,13 +64,13 @@ fn body_of(event: &Event) -> &[u8] {
 pub fn drill_once(rt: &(impl AllocGlobal + CpuClock)) -> anyhow::Result<u64> {
     let alloc = rt.alloc();
     let words = vec![in alloc;
-        format!(in alloc; "drill")?,
+        String::from_str(alloc, "drill")?,
         format!(in alloc; "{STREAMS}")?,
     ]?;
-    let Ok(mut out) = MemSink::new(alloc, ROOM, Vec::new(alloc)) else {
-        bail!("out of memory");
-    };
-    timed_replay(rt, words.as_slice(), &mut out)
+    let mut out = MemSink::new(alloc, ROOM, Vec::new(alloc))?;
+    let spent = timed_replay(rt, words.as_slice(), &mut out);
+    drop(out);
+    spent
 }
 
 fn timed_replay(
@@ -103,95 +104,81 @@ fn ready_buffer(alloc: Global) -> Result<WatermarkBuffer, NoMemory> {
     Ok(buffer)
 }
 
-fn two_buffers(alloc: Global) -> Result<(WatermarkBuffer, WatermarkBuffer), NoMemory> {
-    let first = ready_buffer(alloc)?;
-    Ok((first, ready_buffer(alloc)?))
+/// Two buffers that octets pass through.
+#[derive(Drop)]
+struct Buffers {
+    first: WatermarkBuffer,
+    second: WatermarkBuffer,
+}
+
+impl Buffers {
+    fn new(alloc: Global) -> Result<Self, NoMemory> {
+        let first = ready_buffer(alloc)?;
+        let second = ready_buffer(alloc)?;
+        Ok(Buffers { first, second })
+    }
+
+    /// Passes a piece, if it has octets, into the first buffer, on to the second and out of it, and answers its first octet.
+    fn pass(&mut self, piece: &[u8]) -> Result<u64, NoMemory> {
+        if piece.is_empty() {
+            return Ok(0);
+        }
+        self.first.add(piece)?;
+        let n = self.first.len();
+        self.first.move_to(&mut self.second, &[], n)?;
+        let octet = self
+            .second
+            .front()
+            .first()
+            .map_or(0, |octet| u64::from(*octet));
+        let n = self.second.len();
+        self.second.take(n);
+        Ok(octet)
+    }
+
+    fn pass_bodies(&mut self, clock: &impl CpuClock, events: &EventList) -> anyhow::Result<u64> {
+        let mut sum = 0u64;
+        let watch = CpuStopwatch::start(clock)?;
+        for event in events.as_slice() {
+            sum = sum.wrapping_add(self.pass(body_of(event))?);
+        }
+        let spent = watch.nanos(clock)?;
+        ensure!(sum > 0, "the buffers gave nothing");
+        Ok(spent)
+    }
+
+    fn pass_pieces(
+        &mut self,
+        clock: &impl CpuClock,
+        pieces: u64,
+        piece: &[u8],
+    ) -> anyhow::Result<u64> {
+        let mut sum = 0u64;
+        let watch = CpuStopwatch::start(clock)?;
+        for _piece in 0..pieces {
+            sum = sum.wrapping_add(self.pass(piece)?);
+        }
+        let spent = watch.nanos(clock)?;
+        ensure!(sum > 0, "the buffers gave nothing");
+        Ok(spent)
+    }
 }
 
 /// Passes each body through two buffers, and answers the nanoseconds of processor time.
 fn bodies_once(rt: &(impl AllocGlobal + CpuClock), events: &EventList) -> anyhow::Result<u64> {
-    let Ok((mut first, mut second)) = two_buffers(rt.alloc()) else {
-        bail!("out of memory");
-    };
-    pass_bodies(rt, events, &mut first, &mut second)
-}
-
-fn pass_bodies(
-    clock: &impl CpuClock,
-    events: &EventList,
-    first: &mut WatermarkBuffer,
-    second: &mut WatermarkBuffer,
-) -> anyhow::Result<u64> {
-    let mut sum = 0u64;
-    let watch = CpuStopwatch::start(clock)?;
-    for event in events.as_slice() {
-        sum = sum.wrapping_add(pass_some(first, second, body_of(event))?);
-    }
-    let spent = watch.nanos(clock)?;
-    ensure!(sum > 0, "the buffers gave nothing");
-    Ok(spent)
+    let mut buffers = Buffers::new(rt.alloc())?;
+    let spent = buffers.pass_bodies(rt, events);
+    drop(buffers);
+    spent
 }
 
 /// Passes so many octets through two buffers in great pieces, and answers the nanoseconds of processor time.
 fn pieces_once(rt: &(impl AllocGlobal + CpuClock), octets: u64) -> anyhow::Result<u64> {
     let piece = piece(rt.alloc(), PIECE)?;
-    let Ok((mut first, mut second)) = two_buffers(rt.alloc()) else {
-        bail!("out of memory");
-    };
-    pass_pieces(
-        rt,
-        octets / PIECE as u64,
-        piece.as_slice(),
-        &mut first,
-        &mut second,
-    )
-}
-
-fn pass_pieces(
-    clock: &impl CpuClock,
-    pieces: u64,
-    piece: &[u8],
-    first: &mut WatermarkBuffer,
-    second: &mut WatermarkBuffer,
-) -> anyhow::Result<u64> {
-    let mut sum = 0u64;
-    let watch = CpuStopwatch::start(clock)?;
-    for _piece in 0..pieces {
-        sum = sum.wrapping_add(pass_some(first, second, piece)?);
-    }
-    let spent = watch.nanos(clock)?;
-    ensure!(sum > 0, "the buffers gave nothing");
-    Ok(spent)
-}
-
-/// Passes a piece, if it has octets, and answers its first octet.
-fn pass_some(
-    first: &mut WatermarkBuffer,
-    second: &mut WatermarkBuffer,
-    piece: &[u8],
-) -> anyhow::Result<u64> {
-    if piece.is_empty() {
-        return Ok(0);
-    }
-    match pass(first, second, piece) {
-        Ok(octet) => Ok(octet),
-        Err(NoMemory) => bail!("out of memory"),
-    }
-}
-
-/// Passes a piece into the first buffer, on to the second and out of it, and answers its first octet.
-fn pass(
-    first: &mut WatermarkBuffer,
-    second: &mut WatermarkBuffer,
-    piece: &[u8],
-) -> Result<u64, NoMemory> {
-    first.add(piece)?;
-    let n = first.len();
-    first.move_to(second, &[], n)?;
-    let octet = second.front().first().map_or(0, |octet| u64::from(*octet));
-    let n = second.len();
-    second.take(n);
-    Ok(octet)
+    let mut buffers = Buffers::new(rt.alloc())?;
+    let spent = buffers.pass_pieces(rt, octets / PIECE as u64, piece.as_slice());
+    drop(buffers);
+    spent
 }
 
 fn report(
@@ -209,7 +196,7 @@ fn report(
         (" octets in ", drill),
         (" ns, ", per_second(events, drill.max(1))),
     ];
-    print_line(rt, &numbers, " events a second")?;
+    tell(rt, &numbers, " events a second")?;
     compare(rt, drill, "the same bodies through two buffers: ", bodies)?;
     compare(rt, drill, "as many octets in pieces of 16384: ", pieces)
 }
@@ -224,5 +211,5 @@ fn compare(
         (what, nanos),
         (" ns, the drill takes ", drill / nanos.max(1)),
     ];
-    Ok(print_line(rt, &numbers, " times that")?)
+    tell(rt, &numbers, " times that")
 }

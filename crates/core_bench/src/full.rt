@@ -1,5 +1,5 @@
 // Exchanges whose buffers are full.
-use bench_parts::print_line;
+use crate::telling::tell;
 use core_rig::{Peers, Rig, piece, stream_after};
 use io_ports::NoMemory;
 use std::alloc::Global;
@@ -56,7 +56,7 @@ fn report(rt: &(impl AllocGlobal + Print), clients: u32, taken: u64) -> anyhow::
             flows.saturating_mul(LIMITS.saturating_add(UNIT)),
         ),
     ];
-    Ok(print_line(rt, &numbers, "")?)
+    tell(rt, &numbers, "")
 }
 
 // A cluster's connection and a client come, which take nothing, and both send on each stream what they may. The answer is

@@ -1,7 +1,8 @@
 // Small requests and their responses, one after the other.
 use crate::drill::{drill_once, events_a_second};
-use bench_parts::{per_second, print_line};
-use core_rig::{Peers, client_and_cluster, cost_behind, no_memory, stream_after};
+use crate::telling::tell;
+use bench_parts::per_second;
+use core_rig::{Cost, Peers, client_and_cluster, cost_behind, stream_after};
 use io_ports::NoMemory;
 use std::alloc::Global;
 use std::time::CpuClock;
@@ -44,16 +45,16 @@ fn exchange(peers: &mut Peers, route: Route, at_once: u32) -> Result<(), NoMemor
     peers.room(route.client)
 }
 
-/// So many exchanges between a client and a cluster that have just come: nanoseconds.
-fn once(rt: &(impl AllocGlobal + CpuClock), count: u32, at_once: u32) -> anyhow::Result<u64> {
+/// What so many exchanges take between a client and a cluster that have just come.
+fn once(rt: &(impl AllocGlobal + CpuClock), count: u32, at_once: u32) -> anyhow::Result<Cost> {
     let route = Route {
         client: 1,
         cluster: 2,
         first: 1,
     };
-    let before = client_and_cluster(rt.alloc(), 1, 2).map_err(no_memory)?;
-    let then = exchanges(rt.alloc(), route, count, at_once.max(1)).map_err(no_memory)?;
-    Ok(cost_behind(rt, CONFIG, &before, &then)?.nanos)
+    let before = client_and_cluster(rt.alloc(), 1, 2)?;
+    let then = exchanges(rt.alloc(), route, count, at_once.max(1))?;
+    cost_behind(rt, CONFIG, &before, &then)
 }
 
 /// The fewest nanoseconds that a drill took, and the exchanges of a turn by ones and by thirty-twos.
@@ -71,8 +72,8 @@ fn measure(rt: &(impl AllocGlobal + CpuClock)) -> anyhow::Result<Least> {
     let mut many = u64::MAX;
     for _turn in 0..TURNS {
         drill = drill.min(drill_once(rt)?);
-        ones = ones.min(once(rt, EXCHANGES, 1)?);
-        many = many.min(once(rt, EXCHANGES, AT_ONCE)?);
+        ones = ones.min(once(rt, EXCHANGES, 1)?.nanos);
+        many = many.min(once(rt, EXCHANGES, AT_ONCE)?.nanos);
     }
     Ok(Least { drill, ones, many })
 }
@@ -81,7 +82,7 @@ fn measure(rt: &(impl AllocGlobal + CpuClock)) -> anyhow::Result<Least> {
 pub fn run(rt: &(impl AllocGlobal + Print + CpuClock)) -> anyhow::Result<()> {
     let least = measure(rt)?;
     let drill = events_a_second(least.drill);
-    print_line(rt, &[("drill: ", drill)], " events a second")?;
+    tell(rt, &[("drill: ", drill)], " events a second")?;
     report(rt, 1, least.ones, drill)?;
     report(rt, AT_ONCE, least.many, drill)
 }
@@ -101,7 +102,7 @@ fn report(
             rate.saturating_mul(1_000) / drill.max(1),
         ),
     ];
-    Ok(print_line(rt, &numbers, " in a thousand of the drill's events")?)
+    tell(rt, &numbers, " in a thousand of the drill's events")
 }
 
 /// The exchanges alone, so many, for a profile.
@@ -110,11 +111,11 @@ pub fn alone(
     count: u32,
     at_once: u32,
 ) -> anyhow::Result<()> {
-    let nanos = once(rt, count, at_once)?;
+    let nanos = once(rt, count, at_once)?.nanos;
     let numbers = [
         ("", u64::from(count)),
         (" exchanges, ", u64::from(at_once)),
         (" at once: ", nanos / u64::from(count.max(1))),
     ];
-    Ok(print_line(rt, &numbers, " ns each")?)
+    tell(rt, &numbers, " ns each")
 }

@@ -8,6 +8,7 @@ mod drill;
 mod full;
 mod gets;
 mod many;
+mod telling;
 
 use crate::bursts::Burst;
 use std::env;
@@ -33,7 +34,7 @@ fn main(rt: HostRuntime) -> anyhow::Result<()> {
     let bench = words.next();
     let one = number(words.next());
     let two = number(words.next());
-    run(&rt, bench.as_deref(), one, two)
+    run(&rt, bench.as_deref().unwrap_or(""), one, two)
 }
 
 // The number that a word spells, else 0.
@@ -44,25 +45,29 @@ fn number(word: Option<String>) -> u32 {
     }
 }
 
-// Runs the bench of this name, and prints what it took. Without one it prints the usage.
+// Runs the bench of this name, and prints what it took. Where there is none it prints the usage.
 fn run(
     rt: &(impl AllocGlobal + Print + CpuClock),
-    bench: Option<&str>,
+    bench: &str,
     one: u32,
     two: u32,
 ) -> anyhow::Result<()> {
     match bench {
-        Some("gets") => gets::run(rt),
-        Some("alone") => gets::alone(rt, one, two),
-        Some("bodies") => bodies::run(rt),
-        Some("idle") => crowds::idle(rt, one),
-        Some("tick") => crowds::tick(rt, one),
-        Some("close") => bursts::run(rt, Burst::Close),
-        Some("low") => bursts::run(rt, Burst::Low),
-        Some("settings") => bursts::run(rt, Burst::Settings),
-        Some("full") => full::run(rt, one),
-        Some("many") => many::run(rt, one, two),
-        Some("drill") => drill::run(rt),
-        _ => Ok(rt.print(USAGE)?),
+        "gets" => gets::run(rt),
+        "alone" => gets::alone(rt, one, two),
+        "bodies" => bodies::run(rt),
+        "idle" => crowds::idle(rt, one),
+        "tick" => crowds::tick(rt, one),
+        "close" => bursts::run(rt, Burst::Close),
+        "low" => bursts::run(rt, Burst::Low),
+        "settings" => bursts::run(rt, Burst::Settings),
+        "full" => full::run(rt, one),
+        "many" => many::run(rt, one, two),
+        "drill" => drill::run(rt),
+        _ => usage(rt),
     }
+}
+
+fn usage(rt: &impl Print) -> anyhow::Result<()> {
+    Ok(rt.print(USAGE)?)
 }

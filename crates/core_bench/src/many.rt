@@ -1,6 +1,6 @@
 // Connections and exchanges that come and go.
 use crate::gets::{CONFIG, Route, exchanges};
-use bench_parts::print_line;
+use crate::telling::tell;
 use core_rig::{Peers, Rig, client_and_cluster};
 use io_ports::NoMemory;
 use std::alloc::Global;
@@ -15,7 +15,7 @@ pub fn run(rt: &(impl AllocGlobal + Print), conns: u32, thousands: u32) -> anyho
         ("", u64::from(conns)),
         (" connections and ", u64::from(thousands)),
     ];
-    Ok(print_line(rt, &numbers, " thousand exchanges came and went")?)
+    tell(rt, &numbers, " thousand exchanges came and went")
 }
 
 fn play(alloc: Global, conns: u32, thousands: u32) -> anyhow::Result<()> {

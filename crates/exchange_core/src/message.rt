@@ -1,5 +1,5 @@
 // The head, the trailers and the end of one message.
-ghost use Rattle.std.specs.Prelude.{◌≡◌};
+ghost use Rattle.std.specs.Prelude.{◌≡◌, None};
 ghost use Rattle.std.specs.Option.{option_copied};
 ghost use Rattle.exchange_core.specs.Message.{awaited, empty_message, fields_of, head_came, head_waits, headed, ended_with, list_framed, end_framed_if, trailers_wait};
 
@@ -50,11 +50,11 @@ impl Message {
     pub(crate) fn clear(&mut self)
         ensures { self.new ≡ empty_message }
     {
-        self.head = None;
+        forget(&mut self.head);
         self.head_ends = false;
         self.head_framed = false;
         self.ended = false;
-        self.trailers = None;
+        forget(&mut self.trailers);
         self.end_framed = false;
     }
 
@@ -136,5 +136,16 @@ impl Message {
         ensures { self.new ≡ end_framed_if last self.old }
     {
         self.end_framed = self.end_framed || last;
+    }
+}
+
+// There are no fields from now on. Mostly there are none before, and then nothing has to be dropped.
+#[inline(always)]
+fn forget(fields: &mut Option<FieldList>)
+    ensures { fields.new ≡ None }
+{
+    match fields {
+        Some(_) => *fields = None,
+        None => {}
     }
 }

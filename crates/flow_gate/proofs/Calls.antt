@@ -29,7 +29,7 @@ books_found f books flows found = sym found
 pub line_found : (b : BufferId) (line : Line) (buffers : Buffers) → BufferFound b (Some line) buffers → buffer_at buffers b ≡ Some line
 line_found b line buffers found = sym found
 
-nothing : {X : Type 0} (o : Option X) → is_some o ≡ false → o ≡ None
+pub nothing : {X : Type 0} (o : Option X) → is_some o ≡ false → o ≡ None
 nothing None e = refl
 nothing (Some x) e = absurd (false≢true (sym e))
 

@@ -25,3 +25,4 @@ pub mod Watching
 pub mod Full
 pub mod SideBySide
 pub mod Clear
+pub mod Opening

@@ -43,7 +43,7 @@ at_place-append q (e ∷ xs) ys f at = elim (cases_Bool (nat_eq q e.0)) [
   | inr other ↦ ap (λ t. cond t (Some e.1) (at_place q (xs ++ ys))) other ∙ at_place-append q xs ys f (ap (λ t. cond t (Some e.1) (at_place q xs)) (sym other) ∙ at)
 ]
 
-at_place-last : (p : ℕ) (xs : Places) (f : FlowId) → at_place p xs ≡ None → at_place p (xs ++ (p, f) ∷ []) ≡ Some f
+pub at_place-last : (p : ℕ) (xs : Places) (f : FlowId) → at_place p xs ≡ None → at_place p (xs ++ (p, f) ∷ []) ≡ Some f
 at_place-last p [] f none = ap (λ t. cond t (Some f) None) (eq-eqb p p refl)
 at_place-last p (e ∷ xs) f none = elim (cases_Bool (nat_eq p e.0)) [
   | inl here ↦ absurd (none-some e.1 (sym none ∙ ap (λ t. cond t (Some e.1) (at_place p xs)) here))

@@ -38,6 +38,15 @@ between_no from to q high = grind (arith, nat_tests)
 pub between_below : (from to q : ℕ) → q < from → is_between from to q ≡ false
 between_below from to q low = grind (arith, nat_tests)
 
+between_void : (from to q : ℕ) → to ≤ from → is_between from to q ≡ false
+between_void from to q none = grind (arith, nat_tests)
+
+-- nobody stands between a place and one that isn't behind it
+pub between-none : (from to : ℕ) (es : Places) → to ≤ from → between from to es ≡ []
+between-none from to [] none = refl
+between-none from to (e ∷ es) none =
+    ap (λ b. cond b (e ∷ between from to es) (between from to es)) (between_void from to e.0 none) ∙ between-none from to es none
+
 pub between_from : (a b to q : ℕ) → a ≤ q → b ≤ q → is_between a to q ≡ is_between b to q
 between_from a b to q low lower = grind (arith, nat_tests)
 

@@ -3,7 +3,8 @@ use Rattle.flow_gate.specs.Board.{Board, count, is_known, is_marked, is_open, pe
 use Rattle.flow_gate.specs.Ids.{is_own, same_buffer, same_flow}
 use Rattle.flow_rules.specs.declared.ids.BufferId.{BufferId}
 use Rattle.flow_rules.specs.declared.ids.FlowId.{FlowId}
-use Rattle.std.specs.Prelude.{Bool, List, [], false, filter, if◌then◌else◌, length, not, ◌&&◌, ◌++◌, ◌+◌, ◌==◌, ◌||◌, ◌∷◌, ◌≡◌}
+use Rattle.flow_rules.specs.declared.ids.BufferId.TheVariants as buffer
+use Rattle.std.specs.Prelude.{Bool, List, [], false, filter, if◌then◌else◌, length, not, ℕ, ◌&&◌, ◌++◌, ◌+◌, ◌==◌, ◌||◌, ◌∷◌, ◌≡◌}
 
 -- it is seen as before, of each flow or buffer
 abbrev pub Same : {K X : Type 0} → (Board → K → X) → Board → Board → Type 0
@@ -22,6 +23,16 @@ pub record IsEmpty (board : Board) : Type 0 where
 -- the flow is there, and watches nothing
 pub record Begins (f : FlowId) (old new : Board) : Type 0 where
   pub flows : (g : FlowId) → is_open new g ≡ (same_flow f g || is_open old g)
+  pub counts : Same count old new
+  pub watched : Same watched_by old new
+  pub buffers : Same is_known old new
+  pub marks : Same is_marked old new
+  pub watchers : Same watchers_of old new
+  pub pending : Same pending_on old new
+
+-- nothing is seen to have changed
+pub record IsSeenAs (old new : Board) : Type 0 where
+  pub flows : Same is_open old new
   pub counts : Same count old new
   pub watched : Same watched_by old new
   pub buffers : Same is_known old new
@@ -58,6 +69,16 @@ pub record Watches (f : FlowId) (b : BufferId) (old new : Board) : Type 0 where
   pub marks : Same is_marked old new
   pub watchers : (c : BufferId) → watchers_of new c ≡ watchers_of old c ++ (if same_buffer b c then f ∷ [] else [])
   pub pending : Same pending_on old new
+
+-- the flow is there, its send buffer is known, and it watches that and then the write buffer of a connection
+pub record Opens (f : FlowId) (conn : ℕ) (old new : Board) : Type 0 where
+  pub begun : Board
+  pub known : Board
+  pub watching : Board
+  pub begins : Begins f old begun
+  pub knows : Knows (buffer.Send f) begun known
+  pub watches_send : Watches f (buffer.Send f) known watching
+  pub watches_write : Watches f (buffer.Write conn) watching new
 
 -- the buffer is above, and each of its watchers is held back once more
 pub record Rises (b : BufferId) (old new : Board) : Type 0 where

@@ -8,7 +8,7 @@ use Rattle.std.specs.List.{AllByRecursion, filter_map}
 use Rattle.std.specs.List.Sorted.{IsStrictlySortedBy}
 use Rattle.std.specs.Map.{lookup, values_of}
 use Rattle.std.specs.Ordering.{nat_cmp}
-use Rattle.std.specs.Prelude.{Bool, List, Option, drop, filter, if◌then◌else◌, is_some, length, map, nat_eq, not, option_map, take, ℕ, ◌+◌, ◌<◌, ◌≡◌, ◌≤◌}
+use Rattle.std.specs.Prelude.{Bool, List, Option, [], drop, false, filter, if◌then◌else◌, is_some, length, map, nat_eq, not, option_map, take, ℕ, ◌+◌, ◌++◌, ◌<◌, ◌∷◌, ◌≡◌, ◌≤◌}
 use Rattle.std.specs.declared.ops.Bound.TheVariants.{Excluded, Included}
 
 -- the flows of a line, each at its place, in order
@@ -64,6 +64,14 @@ pub record IsInOrder (next told drained standing : ℕ) (row : List FlowId) (sta
   pub counted : standing ≡ length (live stands)
   pub few : standing ≤ next
   pub whole : IsRow row stands
+
+-- the line of a buffer that isn't above, where one flow stands alone
+abbrev pub alone : ℕ → FlowId → Line
+alone place flow = record { above = false; watchers = (place, flow) ∷ []; pending = [] }
+
+-- the line with a flow behind all others
+abbrev pub longer : ℕ → FlowId → Line → Line
+longer place flow line = record { above = line.above; watchers = line.watchers ++ (place, flow) ∷ []; pending = line.pending }
 
 -- the line without a flow
 abbrev pub left : FlowId → Line → Line

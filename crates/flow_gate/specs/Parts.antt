@@ -2,7 +2,8 @@
 use Rattle.flow_gate.specs.Board.{Board, BufferState, FlowState, IsSound, times, times_of_buffer}
 use Rattle.flow_gate.specs.Books.{Books}
 use Rattle.flow_gate.specs.Ids.{same_buffer, same_flow}
-use Rattle.flow_gate.specs.Line.{Line, Places, at_place}
+use Rattle.flow_gate.specs.Line.{Line, Places, at_place, longer}
+use Rattle.flow_gate.specs.Named.{Updates}
 use Rattle.flow_rules.specs.declared.ids.BufferId.{BufferId}
 use Rattle.flow_rules.specs.declared.ids.FlowId.{FlowId}
 use Rattle.flow_gate.specs.declared.buffers.StageId.{StageId}
@@ -12,7 +13,7 @@ use Rattle.std.specs.Map.{lookup, values_of}
 use Rattle.std.specs.Option.{option_map_or}
 use Rattle.std.specs.declared.ops.Bound.{Bound}
 use Rattle.std.specs.declared.ops.Bound.TheVariants.{Excluded, Included}
-use Rattle.std.specs.Prelude.{Bool, List, None, Option, Some, [], count_by, false, if◌then◌else◌, length, map, nat_lt, sum_by, true, ℕ, ◌+◌, ◌==◌, ◌≡◌, ◌≤◌, ◌^◌}
+use Rattle.std.specs.Prelude.{Bool, List, None, Option, Some, [], count_by, false, if◌then◌else◌, length, map, nat_lt, sum_by, true, ℕ, ◌+◌, ◌==◌, ◌∷◌, ◌≡◌, ◌≤◌, ◌^◌}
 use Rattle.flow_rules.specs.declared.ids.BufferId.TheVariants as buffer
 
 abbrev pub Flows : Type 0
@@ -108,3 +109,20 @@ pub record StandsIn (f : FlowId) (watch : Watch) (line : Line) (buffers : Buffer
   pub found : buffer_at buffers watch.buffer ≡ Some line
   pub here : at_place watch.place line.watchers ≡ Some f
   pub once : times f (values_of line.watchers) ≤ 1
+
+-- the flow doesn't stand in the line, and isn't to be told there
+pub record IsApart (f : FlowId) (line : Line) : Type 0 where
+  pub watchers : times f (values_of line.watchers) ≡ 0
+  pub pending : times f (values_of line.pending) ≡ 0
+
+-- the flow is there, which stands at a place of its send buffer's line, and now behind all others in that of a write buffer too
+pub record Joins (f : FlowId) (own conn : ℕ) (above : Bool) (flows flows' : Flows) (buffers buffers' : Buffers) : Type 0 where
+  pub place : ℕ
+  pub line : Line
+  pub books : Books
+  pub found : buffer_at buffers (buffer.Write conn) ≡ Some line
+  pub free : at_place place line.watchers ≡ None
+  pub watches : books.watches ≡ (record { buffer = buffer.Send f; place = own }) ∷ (record { buffer = buffer.Write conn; place = place }) ∷ []
+  pub there : Updates same_flow f (Some books) flows flows'
+  pub stands : Updates same_buffer (buffer.Write conn) (Some (longer place f line)) buffers buffers'
+  pub is_above : above ≡ line.above

@@ -68,6 +68,7 @@ impl Buffers {
     }
 
     /// The gate of a buffer, if it is known, to be changed.
+    #[inline(always)]
     pub(crate) fn get_mut(&mut self, buffer: BufferId) -> Option<&mut Gate>
         ensures* writes_back { sem 𝓛 (LendsBuffer self.entry buffer result) }
         ensures value { option_copied_mut result ≡ buffer_at self.old buffer }
@@ -78,6 +79,24 @@ impl Buffers {
             BufferId::Stage(flow, stage) => self.stages.get_mut(&StageId { flow, stage }),
             BufferId::Send(flow) => self.sends.get_mut(flow),
         }
+    }
+
+    /// As `get_mut`, of the write buffer of a connection.
+    #[inline(always)]
+    pub(crate) fn write_mut(&mut self, conn: u32) -> Option<&mut Gate>
+        ensures* writes_back { sem 𝓛 (LendsBuffer self.entry (BufferId.Write conn) result) }
+        ensures value { option_copied_mut result ≡ buffer_at self.old (BufferId.Write conn) }
+    {
+        self.writes.get_mut(&conn)
+    }
+
+    /// As `put`, of the send buffer of a flow.
+    #[inline(always)]
+    pub(crate) fn put_send(&mut self, flow: FlowId, gate: Gate) -> Result<(), NoMemory>
+        ensures updates { OnOk result (Updates same_buffer (BufferId.Send flow) (Some gate) self.old self.new) }
+        ensures err { OnErr result (self.new ≡ self.old) }
+    {
+        self.sends.put(flow, gate)
     }
 
     /// From now on the buffer has this gate. After running out of memory nothing has changed.

@@ -131,6 +131,7 @@ impl Gate {
     }
 
     /// Adds a flow at the end of the line, and answers its place.
+    #[inline(always)]
     pub(crate) fn add(&mut self, flow: FlowId) -> Result<u64, NoMemory>
         ensures last { IfOk result (λ place. self.new ≡ record self.old { watchers = self.old.watchers ++ (place, flow) ∷ [] }) }
         ensures new_place { IfOk result (λ place. at_place place self.old.watchers ≡ None) }
@@ -199,6 +200,9 @@ impl Gate {
         ensures first { result ≡ option_map (λ e. e.1) (slice_get self.old.pending 0) }
         ensures rest { self.new ≡ record self.old { pending = drop 1 self.old.pending } }
     {
+        if self.told >= self.drained {
+            return None;
+        }
         let (place, flow) = first(between(self.line.as_slice(), self.told, self.drained))?;
         self.told = place + 1;
         Some(flow)

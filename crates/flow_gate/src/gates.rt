@@ -1,7 +1,7 @@
 // The gates of a worker.
 ghost use Rattle.std.specs.Prelude.{◌≡◌, ◌==◌, ◌&&◌, ◌≤◌, ◌^◌, ◌↔◌, [], false, true, IfOk, Some, OnOk, OnErr, IsNone, count_by, length, not, option_map, option_to_list, slice_get, take, if◌then◌else◌};
 ghost use Rattle.flow_gate.specs.Board.{IsSound, count, is_known, is_marked, is_open, pending_on, times, watchers_of};
-ghost use Rattle.flow_gate.specs.Changes.{Begins, Closes, Drains, Forgets, IsEmpty, Knows, Rises, Tells, Watches};
+ghost use Rattle.flow_gate.specs.Changes.{Begins, Closes, Drains, Forgets, IsEmpty, IsSeenAs, Knows, Opens, Rises, Tells, Watches};
 ghost use Rattle.flow_gate.specs.Ids.{same_buffer};
 ghost use Rattle.flow_gate.specs.Line.{Line, held_in, left, told};
 ghost use Rattle.flow_gate.specs.Parts.{AreWatches, StandsIn, above_at, buffer_at, held, is_stage, kept, watched_in};
@@ -11,6 +11,7 @@ ghost use Rattle.flow_rules.specs.declared.ids.FlowId.{FlowId};
 use crate::buffers::Buffers;
 use crate::flow_map::FlowMap;
 use crate::line::Watchers;
+use crate::senders::{join, line_up};
 use crate::spares::Spares;
 use crate::watcher::{Watch, Watcher};
 use flow_rules::{BufferId, FlowId};
@@ -193,6 +194,29 @@ impl Gates {
         ensures sound { IsSound self.new }
     {
         self.buffers.discard(buffer);
+    }
+
+    /// Begins a flow that watches its send buffer, which is known from now on, and then the write buffer of a connection: as
+    /// `open_flow`, `open_buffer` and `watch` for each of them, with one look-up of each. The answer is whether the write buffer
+    /// is above: then the flow's count is 1, else 0. After running out of memory nothing is seen to have changed.
+    pub fn open_sender(&mut self, flow: FlowId, conn: u32) -> Result<bool, NoMemory>
+        requires closed { is_open self.old flow ≡ false }
+        requires unknown { is_known self.old (BufferId.Send flow) ≡ false }
+        requires known { is_known self.old (BufferId.Write conn) ≡ true }
+        ensures answer { IfOk result (λ above. above ≡ is_marked self.old (BufferId.Write conn)) }
+        ensures ok { OnOk result (Opens flow conn self.old self.new) }
+        ensures err { OnErr result (IsSeenAs self.old self.new) }
+        ensures sound { IsSound self.new }
+    {
+        let own = line_up(&mut self.buffers, &mut self.spares, flow)?;
+        let alloc = self.alloc;
+        match join(&mut self.flows, &mut self.buffers, alloc, flow, own, conn) {
+            Ok(above) => Ok(above),
+            Err(NoMemory) => {
+                self.buffers.discard(BufferId::Send(flow));
+                Err(NoMemory)
+            }
+        }
     }
 
     /// Adds the flow as the last watcher of the buffer. Where the buffer is above, the flow's count grows by 1, and the answer

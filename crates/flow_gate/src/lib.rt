@@ -7,6 +7,7 @@ mod gate;
 mod gates;
 mod line;
 mod row;
+mod senders;
 mod spares;
 mod stands;
 mod watcher;

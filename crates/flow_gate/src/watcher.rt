@@ -1,7 +1,7 @@
 // What one flow watches.
 ghost use Rattle.std.specs.Prelude.{◌≡◌, ◌∷◌, ◌++◌, ◌<◌, ◌^◌, [], OnOk, length};
 
-use flow_rules::BufferId;
+use flow_rules::{BufferId, FlowId};
 use io_ports::NoMemory;
 use std::alloc::Global;
 use std::marker::Model;
@@ -51,6 +51,27 @@ impl Watcher {
         Watcher {
             len: 0,
             few: [nothing; 2],
+            many: Vec::new(alloc),
+        }
+    }
+
+    /// Watches the send buffer of its flow and then the write buffer of a connection, at these places of their lines. Takes no
+    /// memory.
+    #[inline(always)]
+    pub(crate) fn of_sender(alloc: Global, flow: FlowId, own: u64, conn: u32, place: u64) -> Self
+        ensures { result.watches ≡ (record { buffer = BufferId.Send flow; place = own }) ∷ (record { buffer = BufferId.Write conn; place = place }) ∷ [] }
+    {
+        let send = Watch {
+            buffer: BufferId::Send(flow),
+            place: own,
+        };
+        let write = Watch {
+            buffer: BufferId::Write(conn),
+            place,
+        };
+        Watcher {
+            len: FEW,
+            few: [send, write],
             many: Vec::new(alloc),
         }
     }

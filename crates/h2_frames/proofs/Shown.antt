@@ -1,7 +1,7 @@
 -- Which fault some octets show.
 use Rattle.std.proofs.Common.{◌≡◌, ℕ, ◌+◌, ◌<◌, ◌≤◌, Bool, true, false, cond, ltb, List, ◌++◌, length, take, Option, Some, None, refl, sym, ap, subst, ◌∙◌, arith, inl, inr}
 use Rattle.std.proofs.lemmas.Bool.{le-ltb, lt-ltb, ltb-false, cases_lt, false≢true}
-use Rattle.std.proofs.lemmas.List.{length-append, length-take-le, take-append-le}
+use Rattle.std.proofs.lemmas.List.{length-append, take-append-le, take_at}
 use Rattle.std.proofs.Math.Seq.{take-append-add}
 use Rattle.h2_frames.specs.declared.types.FrameFault.{FrameFault}
 use Rattle.h2_frames.specs.declared.types.FrameFault.TheVariants as fault
@@ -10,6 +10,7 @@ use Rattle.h2_frames.specs.Payload.{Says}
 use Rattle.h2_frames.specs.Head.{Head, head_octets}
 use Rattle.h2_frames.specs.Fault.{first_fault, first_of, forbids_length, forbids_stream, head_fault, payload_fault}
 use Rattle.h2_frames.specs.Frames.{Begins, BeginsNoFrame, Shows, ShowsNoFault, SpellsFrame}
+use Rattle.h2_frames.specs.Reading.{BeginsWhole}
 use Rattle.h2_frames.proofs.Heads.{begins_once, begins-more}
 use Rattle.h2_frames.proofs.Faultless.{frame_shows_none}
 
@@ -57,9 +58,6 @@ fault_no_frame max octets fault a piece after frame e s =
 pub shown_by_head : (max : ℕ) (octets : List ℕ) (h : Head) (came : List ℕ) (fault : FrameFault) → Begins octets h came → head_fault max h ≡ Some fault → Shows max octets fault
 shown_by_head max octets h came fault b e = (h, came, b, rw e refl)
 
-pub shown_by_payload : (max : ℕ) (octets : List ℕ) (h : Head) (came : List ℕ) (fault : FrameFault) → Begins octets h came → head_fault max h ≡ None → h.len ≤ length came → payload_fault h (take h.len came) ≡ Some fault → Shows max octets fault
-shown_by_payload max octets h came fault b none long e = (h, came, b, rw (none, le-ltb (length came) h.len long) e)
-
 pub part_no_fault : (max : ℕ) (octets : List ℕ) (h : Head) (came : List ℕ) → Begins octets h came → head_fault max h ≡ None → length came < h.len → ShowsNoFault max octets
 part_no_fault max octets h came b none short fault a =
     let both = begins_once octets h a.0 came a.1 b a.2 in
@@ -81,24 +79,32 @@ not_first false f x e = (refl, e)
 within : (max : ℕ) (h : Head) → head_fault max h ≡ None → h.len ≤ max
 within max h e = ltb-false max h.len (not_first (ltb max h.len) fault.TooLong (cond (forbids_stream h) (Some fault.BadStream) (cond (forbids_length h) (Some fault.BadSize) None)) e).0
 
-whole_front : (octets : List ℕ) (h : Head) (came : List ℕ) → Begins octets h came → Begins (take (h.len + 9) octets) h (take h.len came)
-whole_front octets h came b = record {
+-- the octets of a head and of its payload are those that they begin with
+whole_front : (octets : List ℕ) (h : Head) (payload after : List ℕ) → length payload ≡ h.len → Begins octets h (payload ++ after) → Begins (take (h.len + 9) octets) h payload
+whole_front octets h payload after whole b = record {
   fits = b.fits;
   reserved = b.reserved;
   front =
-      let moved : take (h.len + 9) octets ≡ take (9 + h.len) (head_octets b.reserved h ++ came) = ap (take (h.len + 9)) b.front ∙ ap (λ (n : ℕ). take n (head_octets b.reserved h ++ came)) (omega arith) in
-      moved ∙ take-append-add (head_octets b.reserved h) came h.len;
+      let moved : take (h.len + 9) octets ≡ take (9 + h.len) (head_octets b.reserved h ++ (payload ++ after)) = ap (take (h.len + 9)) b.front ∙ ap (λ (n : ℕ). take n (head_octets b.reserved h ++ (payload ++ after))) (omega arith) in
+      moved ∙ take-append-add (head_octets b.reserved h) (payload ++ after) h.len ∙ ap (λ (l : List ℕ). head_octets b.reserved h ++ l) (take_at payload after h.len whole);
 }
 
-pub whole_frame : (max : ℕ) (octets : List ℕ) (h : Head) (came : List ℕ) (f : Frame) → Begins octets h came → head_fault max h ≡ None → h.len ≤ length came → Says h (take h.len came) f → (h.len + 9 ≤ length octets) × SpellsFrame max (take (h.len + 9) octets) f
-whole_frame max octets h came f b none long says = (
-  omega (arith, ap length b.front, length-append (head_octets b.reserved h) came),
+-- what a whole payload says is the frame at the front
+pub frame_by_payload : (max : ℕ) (octets : List ℕ) (h : Head) (payload : List ℕ) (f : Frame) → BeginsWhole max octets h payload → Says h payload f → (h.len + 9 ≤ length octets) × SpellsFrame max (take (h.len + 9) octets) f
+frame_by_payload max octets h payload f b says = (
+  omega (arith, ap length b.begins.front, length-append (head_octets b.begins.reserved h) (payload ++ b.after), length-append payload b.after, b.whole),
   record {
     head = h;
-    payload = take h.len came;
-    begins = whole_front octets h came b;
-    whole = length-take-le h.len came long;
-    within = within max h none;
+    payload = payload;
+    begins = whole_front octets h payload b.after b.whole b.begins;
+    whole = b.whole;
+    within = within max h b.sound;
     says = says;
   },
 )
+
+-- a fault that a whole payload shows is the first one
+pub shown_by_payload : (max : ℕ) (octets : List ℕ) (h : Head) (payload : List ℕ) (fault : FrameFault) → BeginsWhole max octets h payload → payload_fault h payload ≡ Some fault → Shows max octets fault
+shown_by_payload max octets h payload fault b e =
+    let long : h.len ≤ length (payload ++ b.after) = omega (arith, length-append payload b.after, b.whole) in
+    (h, payload ++ b.after, b.begins, rw (b.sound, le-ltb (length (payload ++ b.after)) h.len long, take_at payload b.after h.len b.whole) e)

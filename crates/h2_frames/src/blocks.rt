@@ -3,7 +3,8 @@ ghost use Rattle.std.specs.Prelude.{◌≡◌, ◌++◌, ◌+◌, ◌<◌, ◌�
 ghost use Rattle.h2_frames.specs.Blocks.{block_frames, continued, pieces, spellings};
 ghost use Rattle.h2_frames.specs.Spelling.{flag_when};
 
-use crate::types::{END_HEADERS, END_STREAM, Frame, HEADERS};
+use crate::kinds::HEADERS;
+use crate::types::{END_HEADERS, END_STREAM, Frame};
 use crate::writing::{frame_head, write_frame};
 use io_ports::{NoMemory, Octets};
 

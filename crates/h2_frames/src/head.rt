@@ -5,15 +5,19 @@ ghost use Rattle.h2_frames.specs.Frames.{Begins};
 ghost use Rattle.h2_frames.specs.Fault.{forbids_stream, forbids_length, head_fault};
 ghost use Rattle.h2_frames.specs.View.{head_view};
 
+use crate::kinds::{CONTINUATION, GOAWAY, PING, PRIORITY, RST_STREAM, SETTINGS, WINDOW_UPDATE};
 use crate::numbers::word_at;
-use crate::types::*;
+use crate::types::{ACK, FrameFault};
 
-/// What the nine octets say, without the reserved bit.
+/// What the nine octets say, without the reserved bit (RFC 9113 section 4.1).
 #[derive(Clone, Copy)]
 pub struct FrameHead {
+    /// How many octets the payload has.
     pub len: u32,
+    /// The type, as in `kinds`.
     pub kind: u8,
     pub flags: u8,
+    /// The number of 31 bits of the stream, 0 for the connection.
     pub stream: u32,
 }
 

@@ -6,6 +6,7 @@ ghost use Rattle.h2_frames.specs.Payload.{weighting_octets};
 ghost use Rattle.h2_frames.specs.Spelling.{IsWritable, flag_when, priority_octets, spelling};
 ghost use Rattle.h2_frames.specs.View.{view};
 
+use crate::kinds::*;
 use crate::types::*;
 use io_ports::{NoMemory, Octets};
 

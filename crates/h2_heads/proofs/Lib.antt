@@ -8,4 +8,5 @@ pub mod Lowest
 pub mod Passes
 pub mod Pseudos
 pub mod SoundFields
+pub mod ToldNames
 pub mod TwoEnds

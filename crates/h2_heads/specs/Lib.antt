@@ -8,3 +8,4 @@ pub mod Passes
 pub mod Pseudos
 pub mod Replies
 pub mod Rules
+pub mod Told

@@ -9,7 +9,7 @@ use crate::lengths::first_length;
 use crate::malformed::{Kind, Malformed, Message};
 use crate::pseudo::Pseudo;
 use crate::values::length_named;
-use hpack_codec::Field;
+use hpack_codec::{Field, FieldList};
 
 /// What a sound list says: at which places its `:authority` and its `:path` stand, and the
 /// content-length that it names.
@@ -20,9 +20,10 @@ pub struct Said {
     pub content_length: Option<u64>,
 }
 
-/// Goes once through the list, and stops at the first field that breaks a rule.
-pub fn check(message: Message, fields: &[Field]) -> Result<Said, Malformed>
-    requires { length fields.now < 2 ^ 32 }
+/// Goes once through the fields of a list, and stops at the first that breaks a rule.
+pub fn check(message: Message, list: &FieldList, fields: &[Field]) -> Result<Said, Malformed>
+    requires few { length fields.now < 2 ^ 32 }
+    requires same { fields.now ≡ list.now }
     ensures sound { OnOk result (IsSound (fault_at message fields.now)) }
     ensures authority { IfOk result (λ said. said.authority ≡ place_of (codes ":authority") fields.now) }
     ensures path { IfOk result (λ said. said.path ≡ place_of (codes ":path") fields.now) }
@@ -35,7 +36,8 @@ pub fn check(message: Message, fields: &[Field]) -> Result<Said, Malformed>
     let mut length = None;
     for (place, field) in fields.iter().enumerate() {
         let name = field.name.as_slice();
-        if let Some(kind) = front.take(message, length, place, name, field) {
+        let told = list.told(place);
+        if let Some(kind) = front.take(message, length, place, told, name, field) {
             return Err(Malformed::at(place, kind));
         }
         length = first_length(length, name, field);

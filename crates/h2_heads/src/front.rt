@@ -5,6 +5,9 @@ ghost use Rattle.std.specs.Option.{option_copied};
 ghost use Rattle.h2_heads.specs.Fronts.{has, placed, IsFront, Judges, Tells, TellsPseudo};
 ghost use Rattle.h2_heads.specs.Pseudos.{field_of, needed_by, pseudo_of};
 ghost use Rattle.h2_heads.specs.Rules.{is_bad_value, is_pseudo};
+ghost use Rattle.h2_heads.specs.Told.{IsPlain};
+ghost use Rattle.hpack_codec.specs.Told.{IsToldBy};
+ghost use Rattle.hpack_codec.specs.declared.fields.Field.{Field};
 ghost use Rattle.h2_heads.specs.declared.front.Front.{Front};
 ghost use Rattle.h2_heads.specs.declared.malformed.Message.{Message};
 
@@ -12,7 +15,7 @@ use crate::malformed::{Kind, Message};
 use crate::names::{fault_of_name, is_pseudo, is_sound_name, is_sound_regular};
 use crate::pseudo::{Pseudo, is_bad_of, knows, pseudo_of};
 use crate::rules::lowest_of_regular;
-use crate::values::is_bad_value;
+use crate::told::{Named, is_bad_told, name_told};
 use hpack_codec::Field;
 
 /// What a list's first fields, which break no rule, say of the next one: at which places
@@ -34,25 +37,63 @@ impl Front {
         }
     }
 
-    /// Takes the field at a place, the next one, or answers the lowest rule that it breaks, where
+    /// Takes the field at a place, the next one, of which so much is told, or answers the lowest rule that it breaks, where
     /// `length` is the value of the first content-length before it.
     pub fn take(
         &mut self,
         message: Message,
         length: Option<&[u8]>,
         place: usize,
+        told: u8,
         name: &[u8],
         field: &Field,
     ) -> Option<Kind>
-        requires { name.now ≡ field.now.name }
+        requires name { name.now ≡ field.now.name }
+        requires told { IsToldBy told field.now }
         ensures { Judges message self.old place (option_copied length.entry) field.now self.new result }
     {
         let value = field.value.as_slice();
-        let bad_value = is_bad_value(value);
+        let bad_value = is_bad_told(told, value);
+        match name_told(told) {
+            Named::Pseudo(pseudo) => {
+                self.take_pseudo(message, pseudo, place, value, bad_value, field)
+            }
+            Named::Plain => self.take_plain(bad_value),
+            Named::Unknown => self.take_by_name(message, length, place, name, bad_value, field),
+        }
+    }
+
+    // The same of a regular field whose name is sound and has no rule of its own.
+    fn take_plain(&mut self, bad_value: bool) -> Option<Kind>
+        ensures { (message : Message) (place : ℕ) (first : Option (List ℕ)) (field : Field) → IsPlain field → bad_value ≡ is_bad_value field.value
+            → Judges message self.old place first field self.new result }
+    {
+        if bad_value {
+            return Some(Kind::BadValue);
+        }
+        self.regular = true;
+        None
+    }
+
+    // The same of a field that is told by its name.
+    fn take_by_name(
+        &mut self,
+        message: Message,
+        length: Option<&[u8]>,
+        place: usize,
+        name: &[u8],
+        bad_value: bool,
+        field: &Field,
+    ) -> Option<Kind>
+        requires name { name.now ≡ field.now.name }
+        requires value { bad_value ≡ is_bad_value field.now.value }
+        ensures { Judges message self.old place (option_copied length.entry) field.now self.new result }
+    {
         if !is_pseudo(name) {
             return self.take_regular(length, place, name, bad_value, field);
         }
         if let Some(pseudo) = pseudo_of(name) {
+            let value = field.value.as_slice();
             return self.take_pseudo(message, pseudo, place, value, bad_value, field);
         }
         Some(self.fault_of_unknown(name, bad_value, field))

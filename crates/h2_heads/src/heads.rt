@@ -50,10 +50,11 @@ pub fn check_request(fields: &FieldList) -> Result<RequestHead, Malformed>
     ensures fault { IfErr result (IsFirst (fault_at (message_of_request fields.now) fields.now)) }
     ensures malformed { is_err result ≡ is_malformed_request fields.now }
 {
-    let fields = fields.as_slice();
+    let list = fields;
+    let fields = list.as_slice();
     let method = first_method(fields);
     let connect = is_some(method, b"CONNECT");
-    let said = check(message_of_request(connect), fields)?;
+    let said = check(message_of_request(connect), list, fields)?;
     Ok(RequestHead {
         connect,
         head: is_some(method, b"HEAD"),
@@ -75,8 +76,9 @@ pub fn check_response(fields: &FieldList) -> Result<ResponseHead, Malformed>
     ensures fault { IfErr result (IsFirst (fault_at Response fields.now)) }
     ensures malformed { is_err result ≡ is_malformed_response fields.now }
 {
-    let fields = fields.as_slice();
-    let said = check(Message::Response, fields)?;
+    let list = fields;
+    let fields = list.as_slice();
+    let said = check(Message::Response, list, fields)?;
     Ok(ResponseHead {
         status: named_status(fields).unwrap_or(0),
         content_length: said.content_length,
@@ -90,7 +92,7 @@ pub fn check_trailers(fields: &FieldList) -> Result<(), Malformed>
     ensures fault { IfErr result (IsFirst (fault_at Trailers fields.now)) }
     ensures malformed { is_err result ≡ is_malformed_trailers fields.now }
 {
-    match check(Message::Trailers, fields.as_slice()) {
+    match check(Message::Trailers, fields, fields.as_slice()) {
         Ok(_) => Ok(()),
         Err(malformed) => Err(malformed),
     }

@@ -12,6 +12,7 @@ mod octets;
 mod pseudo;
 mod replies;
 mod rules;
+mod told;
 mod values;
 
 pub use heads::{RequestHead, ResponseHead, check_request, check_response, check_trailers};

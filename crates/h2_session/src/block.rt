@@ -36,6 +36,7 @@ impl HeaderBlock {
 }
 
 /// A frame within an open block that doesn't go on with it, or a CONTINUATION outside one.
+#[inline(always)]
 pub(crate) fn breaks_block(frame: &Frame, block: &Option<HeaderBlock>) -> bool
     ensures { result ≡ breaks_block (view frame.now) block.now }
 {
@@ -48,6 +49,7 @@ pub(crate) fn breaks_block(frame: &Frame, block: &Option<HeaderBlock>) -> bool
 }
 
 /// The block with the frame is too great.
+#[inline(always)]
 pub(crate) fn is_great(frame: &Frame, before: &Option<HeaderBlock>) -> bool
     ensures { result ≡ is_great (block_with (view frame.now) before.now) }
 {

@@ -12,3 +12,4 @@ pub mod Spellings
 pub mod Spelt
 pub mod StaticPlaces
 pub mod StaticRows
+pub mod ToldFields

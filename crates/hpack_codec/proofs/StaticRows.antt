@@ -1,5 +1,5 @@
 -- The rows of the static table, and the tables behind one another.
-use Rattle.std.proofs.Common.{◌≡◌, ℕ, zero, suc, ◌+◌, ◌<◌, ◌∙◌, List, [], ◌∷◌, ◌++◌, length, get_or, map, Some, Bor, refl, sym, ap, arith}
+use Rattle.std.proofs.Common.{◌≡◌, ℕ, zero, suc, ◌+◌, ◌-◌, ◌<◌, ◌≤◌, ◌∙◌, List, [], ◌∷◌, ◌++◌, length, get_or, map, Some, Bor, refl, sym, ap, arith}
 use Rattle.std.proofs.lemmas.List.{get_or-map}
 use Rattle.std.proofs.lemmas.Option.{slice_get-get_or}
 use Rattle.std.specs.List.{slice_get}
@@ -38,3 +38,6 @@ at t index place e = ap (entry_at t) e
 
 pub dynamic_at : (t : Table) (index place : ℕ) → index ≡ suc (61 + place) → entry_at t index ≡ slice_get t.lines place
 dynamic_at t index place e = at t index (61 + place) e ∙ slice_get-right static_table t.lines place (61 + place) (omega (arith, static_length))
+
+pub static_at : (t : Table) (index : ℕ) → 0 < index → index ≤ 61 → entry_at t index ≡ slice_get static_table (index - 1)
+static_at t index some within = at t index (index - 1) (omega arith) ∙ slice_get-left static_table t.lines (index - 1) (omega (arith, static_length))

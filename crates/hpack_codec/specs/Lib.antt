@@ -8,4 +8,5 @@ pub mod Sections
 pub mod Spelling
 pub mod Strings
 pub mod Table
+pub mod Told
 pub mod Words

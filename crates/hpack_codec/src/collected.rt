@@ -23,6 +23,7 @@ impl Collected {
     ghost use Rattle.hpack_codec.specs.Encoding.{HasSpelling};
     ghost use Rattle.hpack_codec.specs.Entries.{entry_line};
     ghost use Rattle.hpack_codec.specs.Sections.{field_of, list_size};
+    ghost use Rattle.hpack_codec.specs.Told.{IsToldBy};
     ghost use Rattle.hpack_codec.specs.declared.fields.Field.{Field};
 
     /// No fields, of a list that may count at most so many octets. Takes memory for some fields
@@ -67,9 +68,10 @@ impl Collected {
         true
     }
 
-    /// Adds a field.
+    /// Adds a field, of which so much is told.
     #[inline(always)]
-    pub fn push(&mut self, field: Field) -> Result<(), NoMemory>
+    pub fn push(&mut self, field: Field, told: u8) -> Result<(), NoMemory>
+        requires { IsToldBy told field }
         ensures ok { OnOk result ((most : ℕ) (fields : List Field) → Holds most self.old fields →
             Holds most self.new (fields ++ field ∷ [])) }
     {
@@ -77,12 +79,13 @@ impl Collected {
         if !self.counts(size) {
             return Ok(());
         }
-        self.fields.keep(field, size)
+        self.fields.keep(field, size, told)
     }
 
-    /// Adds a field that is a copy of an entry.
+    /// Adds a field that is a copy of an entry, of which so much is told.
     #[inline(always)]
-    pub fn push_entry(&mut self, entry: Entry<'_>) -> Result<(), NoMemory>
+    pub fn push_entry(&mut self, entry: Entry<'_>, told: u8) -> Result<(), NoMemory>
+        requires { IsToldBy told (field_of (entry_line entry) false) }
         ensures ok { OnOk result ((most : ℕ) (fields : List Field) → Holds most self.old fields →
             Holds most self.new (fields ++ field_of (entry_line entry.entry) false ∷ [])) }
     {
@@ -96,7 +99,7 @@ impl Collected {
             value: line.value,
             never: false,
         };
-        self.fields.keep(field, size)
+        self.fields.keep(field, size, told)
     }
 
     /// The list, unless it is too long.

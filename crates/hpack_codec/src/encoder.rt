@@ -5,7 +5,7 @@ ghost use Rattle.hpack_codec.specs.Sections.{SpellsBlock, list_size};
 ghost use Rattle.hpack_codec.specs.Table.{Table, resized};
 
 use crate::fields::FieldList;
-use crate::spelling::push_field;
+use crate::spelling::push_told;
 use io_ports::{NoMemory, Octets};
 use std::alloc::Global;
 use std::marker::Model;
@@ -73,8 +73,8 @@ impl Encoder {
         if self.anew {
             out.push(0x20)?;
         }
-        for field in fields.as_slice() {
-            push_field(out, field)?;
+        for (place, field) in fields.as_slice().iter().enumerate() {
+            push_told(out, field, fields.told(place))?;
         }
         self.anew = false;
         Ok(())

@@ -16,6 +16,7 @@ mod spelling;
 mod static_table;
 mod strings;
 mod table;
+mod told;
 mod words;
 
 pub use decoder::Decoder;

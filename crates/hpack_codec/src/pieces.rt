@@ -12,6 +12,7 @@ use crate::integers::read_integer;
 use crate::line::Entry;
 use crate::literals::read_literal;
 use crate::table::DynamicTable;
+use crate::told::{told_name, told_whole};
 
 /// Reads a field that is an entry of the tables.
 #[inline(always)]
@@ -32,7 +33,7 @@ fn read_indexed<'a>(
     let Some(entry) = table.entry(index) else {
         return Err(HpackFault::BadIndex);
     };
-    match list.push_entry(entry) {
+    match list.push_entry(entry, told_whole(index)) {
         Ok(()) => Ok(rest),
         Err(_) => Err(HpackFault::NoMemory),
     }
@@ -49,14 +50,14 @@ fn read_inserted<'a>(
     ensures err { IfErr result (λ e. OrNoMemory e ((greatest : ℕ) → Stops Form.WithIndexing greatest table.old list.old octets.now e)) }
     ensures shorter { IfOk result (λ rest. length rest.now < length octets.now) }
 {
-    let (line, rest) = match read_literal(list.alloc, table, octets, 6) {
+    let (line, rest, _) = match read_literal(list.alloc, table, octets, 6) {
         Ok(found) => found,
         Err(fault) => return Err(fault),
     };
     let Ok(line) = line.shared() else {
         return Err(HpackFault::NoMemory);
     };
-    let Ok(()) = list.push_entry(Entry::Added(&line)) else {
+    let Ok(()) = list.push_entry(Entry::Added(&line), 0) else {
         return Err(HpackFault::NoMemory);
     };
     match table.insert(line) {
@@ -79,16 +80,17 @@ fn read_unindexed<'a>(
         Stops (literal_form never) greatest table.now list.old octets.now e)) }
     ensures shorter { IfOk result (λ rest. length rest.now < length octets.now) }
 {
-    let (line, rest) = match read_literal(list.alloc, table, octets, 4) {
+    let (line, rest, index) = match read_literal(list.alloc, table, octets, 4) {
         Ok(found) => found,
         Err(fault) => return Err(fault),
     };
+    let told = told_name(index, line.value.as_slice());
     let field = Field {
         name: line.name,
         value: line.value,
         never,
     };
-    match list.push(field) {
+    match list.push(field, told) {
         Ok(()) => Ok(rest),
         Err(_) => Err(HpackFault::NoMemory),
     }

@@ -1,6 +1,7 @@
 // How fields are spelled.
-ghost use Rattle.std.specs.Prelude.{◌≡◌, ◌+◌, ◌*◌, ◌^◌, ◌≤◌, ◌<◌, ◌++◌, OnOk, length};
+ghost use Rattle.std.specs.Prelude.{◌≡◌, ◌+◌, ◌*◌, ◌^◌, ◌≤◌, ◌<◌, ◌++◌, OnOk, Some, length};
 ghost use Rattle.hpack_codec.specs.Encoding.{varint, integer, plain_string, spelled_name, literal, encode_field, name_index};
+ghost use Rattle.hpack_codec.specs.Told.{IsToldBy};
 
 use crate::fields::Field;
 use crate::static_table::find;
@@ -81,6 +82,48 @@ fn push_literal(out: &mut Vec<u8>, field: &Field, index: Option<u32>) -> Result<
 {
     push_name(out, u8::from(field.never), field.name.as_slice(), index)?;
     push_string(out, field.value.as_slice())
+}
+
+/// Writes a field of which so much is told, without a search where that is enough.
+#[inline(always)]
+pub(crate) fn push_told(out: &mut Vec<u8>, field: &Field, told: u8) -> Result<(), AllocError>
+    requires name { length field.now.name < 2 ^ 32 }
+    requires value { length field.now.value < 2 ^ 32 }
+    requires told { IsToldBy told field.now }
+    ensures { OnOk result (out.new.items ≡ out.old.items ++ encode_field field.now) }
+{
+    if told > 128 {
+        out.push(told)?;
+        return Ok(());
+    }
+    if told > 0 {
+        return push_named(out, field, told);
+    }
+    push_field(out, field)
+}
+
+/// Writes a literal by the index of its name: what stands before the value at once, where the value is short.
+#[inline(always)]
+fn push_named(out: &mut Vec<u8>, field: &Field, index: u8) -> Result<(), AllocError>
+    requires name { length field.now.name < 2 ^ 32 }
+    requires value { length field.now.value < 2 ^ 32 }
+    requires index { Some index ≡ name_index field.now.name }
+    requires few { index < 127 }
+    ensures { OnOk result (out.new.items ≡ out.old.items ++ literal field.now) }
+{
+    let value = field.value.as_slice();
+    let len = value.len();
+    if len >= 127 {
+        return push_literal(out, field, Some(u32::from(index)));
+    }
+    let pattern = 16 * u8::from(field.never);
+    if index < 15 {
+        out.extend_from_slice(&[pattern + index, len as u8])?;
+    } else {
+        out.extend_from_slice(&[pattern + 15, index - 15, len as u8])?;
+    }
+    out.extend_from_slice(value)?;
+    Ok(())
 }
 
 /// Writes a field: the index of an entry of the static table, or a literal.

@@ -34,6 +34,10 @@
 //! until it is longer than N octets, and of what such a session writes the last line alone is shown. The line `text plain`,
 //! `text wire` or `text drill` alone prints the text of a short session, and the line `codes` the code of each status.
 //!
+//! A case whose first line is `shed` dispatches events to a core through the load shed points, and prints of each what became of it and
+//! how many notes there were, and at the end the states of the points. Lines `| TEXT` are the configuration's, a line `forget C` says
+//! that a connection is gone, and the others are events, spelled as a session's.
+//!
 //! A case with a line `sample P ..` samples these pressures from a gauge that has those of a line `gauge P ..`, and whose readings
 //! `% gauge K` fail.
 #![tactic(auto)]
@@ -53,6 +57,7 @@ mod run;
 mod said;
 mod sampling;
 mod script;
+mod shed_case;
 mod show;
 mod stage;
 mod texts;
@@ -62,6 +67,7 @@ use crate::relay_show::say_relay;
 use crate::replay_show::say_replay;
 use crate::run::run_case;
 use crate::said::Said;
+use crate::shed_case::say_shed;
 use crate::texts::{say_codes, say_texts};
 use replay_cli::replay_words;
 use std::env::{self, Env};
@@ -129,6 +135,7 @@ fn say_case<R: AllocGlobal + Threads + Wait + Sync>(rt: &R, lines: &str, said: &
     match first {
         "relay" => say_relay(rt.alloc(), rest, said),
         "replay" => say_replay(rt.alloc(), rest, said),
+        "shed" => say_shed(rt.alloc(), rest, said),
         "codes" => say_codes(said),
         "bench" => said.say(bench::USAGE),
         _ => match first.strip_prefix("text ") {

@@ -220,15 +220,22 @@ module _ {X : Type 0} where
   first_gone [] = refl
   first_gone (x ∷ es) = refl
 
-  pub is_last : (number : ℕ) (e : ℕ × X) (es : List (ℕ × X)) → IsSorted es → 0 < length es → e ≡ get_or es (length es - 1) e → e.0 ≡ number → IsAt number (length es - 1) es
-  is_last number e es sorted some is same = record {
-    within = omega (arith, some);
-    before = λ k less. omega (arith, key_at es (length es - 1) e (omega (arith, some)) is, same, keys_rise es sorted k (length es - 1) less (omega (arith, some)));
-    is = key_at es (length es - 1) e (omega (arith, some)) is ∙ same;
+  pub stands : (number i : ℕ) (e : ℕ × X) (es : List (ℕ × X)) → IsSorted es → i < length es → e ≡ get_or es i e → e.0 ≡ number → IsAt number i es
+  stands number i e es sorted within is same = record {
+    within = within;
+    before = λ k less. omega (arith, key_at es i e within is, same, keys_rise es sorted k i less within);
+    is = key_at es i e within is ∙ same;
   }
 
-  pub is_front : (number : ℕ) (e : ℕ × X) (es : List (ℕ × X)) → 0 < length es → e ≡ get_or es 0 e → e.0 ≡ number → IsAt number 0 es
-  is_front number e es some is same = record { within = some; before = λ k less. absurd (omega (arith, less)); is = key_at es 0 e some is ∙ same }
+  pub is_last : (number : ℕ) (e : ℕ × X) (es : List (ℕ × X)) → IsSorted es → 0 < length es → e ≡ get_or es (length es - 1) e → e.0 ≡ number → IsAt number (length es - 1) es
+  is_last number e es sorted some is same = stands number (length es - 1) e es sorted (omega (arith, some)) is same
+
+  pub below_first : (number : ℕ) (e : ℕ × X) (es : List (ℕ × X)) → IsSorted es → 0 < length es → e ≡ get_or es 0 e → number < e.0 → IsGap number 0 es
+  below_first number e es sorted some is less = record {
+    within = omega arith;
+    before = λ k before. absurd (omega (arith, before));
+    after = λ k from last. omega (arith, less, key_at es 0 e some is, keys_far es sorted 0 k (omega arith) last);
+  }
 
   -- ---- where it is looked for
   pub is_there : (number i : ℕ) (e : ℕ × X) (es : List (ℕ × X)) → IsBelow number i es → i < length es → e ≡ get_or es i e → e.0 ≡ number → IsAt number i es

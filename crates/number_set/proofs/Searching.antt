@@ -81,6 +81,19 @@ end_gap xs x n rises long some less = record {
   above = λ k from last. absurd (omega (arith, long, from, last));
 }
 
+-- what a look at the first finds
+pub first_found : (xs : List ℕ) (x y : ℕ) → 0 < length xs → y ≡ get_or xs 0 0 → x ≡ y → IsFoundAt xs x 0
+first_found [] x y some at is = absurd (omega (arith, some))
+first_found (z ∷ xs) x y some at is = record { within = some; is = sym at ∙ sym is }
+
+pub first_gap : (xs : List ℕ) (x y : ℕ) → Rises xs → 0 < length xs → y ≡ get_or xs 0 0 → x < y → IsGapAt xs x 0
+first_gap [] x y rises some at less = absurd (omega (arith, some))
+first_gap (z ∷ xs) x y rises some at less = record {
+  within = omega arith;
+  below = λ k before. absurd (omega (arith, before));
+  above = λ k from last. omega (arith, less, at, far (z ∷ xs) rises 0 k (omega arith) last);
+}
+
 -- the places up to one that is found, and from it on
 pub upto_found : (xs : List ℕ) (x i : ℕ) → IsFoundAt xs x i → Rises xs → (k : ℕ) → k < i + 1 → get_or xs k 0 ≤ x
 upto_found xs x i found rises k less = omega (arith, found.is, far xs rises k i (omega (arith, less)) found.within)

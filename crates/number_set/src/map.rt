@@ -3,7 +3,7 @@ ghost use Rattle.std.specs.BTreeMap.{insert_entry, is_at};
 ghost use Rattle.std.specs.List.{insert, remove};
 ghost use Rattle.std.specs.Map.{remove_entry, set_value};
 ghost use Rattle.std.specs.Ordering.{nat_cmp};
-ghost use Rattle.std.specs.Prelude.{◌≡◌, ◌<◌, ◌≤◌, ◌∷◌, [], IsNone, IsSome, MatchOption, MatchResult, None, OnErr, OnOk, Some, drop, length, true};
+ghost use Rattle.std.specs.Prelude.{◌≡◌, ◌<◌, ◌≤◌, ◌∷◌, [], IfSome, IsNone, IsSome, MatchOption, MatchResult, None, OnErr, OnOk, Some, drop, length, true};
 
 use io_ports::NoMemory;
 use std::alloc::Global;
@@ -118,15 +118,64 @@ impl<T: Copy> NumberMap<T> {
         self.search(number)
     }
 
-    // The same without a look at the last: most others that are asked for stand first. It isn't inlined, so that its code is
-    // there once for all that look for a number.
+    // The same without a look at the last: before all where the number is below the first, as numbers of streams that are closed
+    // mostly are, or as far from the first as the number is, or else by halves. It isn't inlined, so that its code is there once
+    // for all that look for a number.
     #[inline(never)]
     fn search(&self, number: u64) -> Result<usize, usize>
         ensures { MatchResult result (λ i. IsAt number i self.now) (λ i. IsGap number i self.now) }
     {
-        if self.is_first(number) {
-            return Ok(0);
+        if self.is_below_all(number) {
+            return Err(0);
         }
+        match self.guess(number) {
+            Some(place) => Ok(place),
+            None => self.by_halves(number),
+        }
+    }
+
+    // Whether a number is below the first.
+    #[inline(always)]
+    fn is_below_all(&self, number: u64) -> bool
+        ensures { result ≡ true → IsGap number 0 self.now }
+    {
+        match self.items.front() {
+            Some(first) => number < first.0,
+            None => false,
+        }
+    }
+
+    // The place as far from the first as the number is, if the number stands there. Most are numbers of streams, which their
+    // peer gives by twos: it does where none between them has gone.
+    #[inline(always)]
+    fn guess(&self, number: u64) -> Option<usize>
+        ensures { IfSome result (λ i. IsAt number i self.now) }
+    {
+        let first = self.items.front()?;
+        let ahead = number.checked_sub(first.0)?;
+        let place = usize::try_from(ahead / 2).ok()?;
+        self.at_place(place, number)
+    }
+
+    // The place, if a number stands there.
+    #[inline(always)]
+    fn at_place(&self, place: usize, number: u64) -> Option<usize>
+        ensures { IfSome result (λ i. IsAt number i self.now) }
+    {
+        let Some(item) = self.items.get(place) else {
+            return None;
+        };
+        if item.0 == number {
+            return Some(place);
+        }
+        None
+    }
+
+    // The same by halves.
+    #[inline(never)]
+    fn by_halves(&self, number: u64) -> Result<usize, usize>
+        ensures { MatchResult result (λ i. IsAt number i self.now) (λ i. IsGap number i self.now) }
+    {
         let place = self.count_below(number);
         match self.items.get(place) {
             Some(item) => {
@@ -137,17 +186,6 @@ impl<T: Copy> NumberMap<T> {
                 }
             }
             None => Err(place),
-        }
-    }
-
-    // Whether a number stands first.
-    #[inline(always)]
-    fn is_first(&self, number: u64) -> bool
-        ensures { result ≡ true → IsAt number 0 self.now }
-    {
-        match self.items.front() {
-            Some(first) => first.0 == number,
-            None => false,
         }
     }
 

@@ -197,12 +197,22 @@ fn place_by(items: &[u64], last: u64, number: u64) -> Result<usize, usize>
     search(items, number)
 }
 
-// The same by halves. It isn't inlined, so that its code is there once for all that look for a number.
+// The same by the first of them, or else by halves: most that don't stand last stand first, or come there. It isn't inlined, so
+// that its code is there once for all that look for a number.
 #[inline(never)]
 fn search(items: &[u64], number: u64) -> Result<usize, usize>
     requires { Rises items.now }
     ensures { MatchResult result (IsFoundAt items.now number) (IsGapAt items.now number) }
 {
+    let Some(first) = items.first() else {
+        return Err(0);
+    };
+    if number == *first {
+        return Ok(0);
+    }
+    if number < *first {
+        return Err(0);
+    }
     items.binary_search(&number)
 }
 
@@ -229,6 +239,13 @@ fn put_between(items: &mut Vec<u64>, index: usize, number: u64)
     ensures items { items.new.items ≡ insert items.old.items index number }
     ensures room { vec_capacity items.new ≡ vec_capacity items.old }
 {
+    // Where one number alone stands behind, as in a set of two.
+    if index + 1 == items.len() {
+        let last = items[index];
+        items[index] = number;
+        items.push_reserved(last);
+        return;
+    }
     let Ok(()) = items.insert(index, number) else {
         unreachable!()
     };

@@ -323,6 +323,11 @@ module _ {X : Type 0} where
   same_read zero page other (p ∷ pages) within is also = is ∙ sym also
   same_read (suc place) page other (p ∷ pages) within is also = same_read place page other pages (omega (arith, within)) is also
 
+  pub read_or : (place : ℕ) (page other : ℕ × List (Option X)) (pages : List (ℕ × List (Option X))) → place < length pages → page ≡ get_or pages place page → page ≡ get_or pages place other
+  read_or place page other [] within is = absurd (omega (arith, within))
+  read_or zero page other (p ∷ pages) within is = is
+  read_or (suc place) page other (p ∷ pages) within is = read_or place page other pages (omega (arith, within)) is
+
   -- ---- what holds of a map goes on to hold
   pub kept_none : (pages : List (ℕ × List (Option X))) → pages ≡ [] → AreKept 0 pages
   kept_none pages is = subst (AreKept 0) (sym is) (record { pages = record { order = sorted_none (List (Option X)); long = tt }; small = omega arith; counted = refl })

@@ -11,8 +11,8 @@ ghost use Rattle.std.specs.Ordering.{nat_cmp};
 ghost use Rattle.std.specs.Prelude.{◌≡◌, ◌<◌, ◌≤◌, ◌+◌, ◌^◌, [], if◌then◌else◌, IfOk, IfSome, IsSomeAnd, None, OnErr, OnOk, Some, ℕ, is_some, length, true};
 
 use crate::key::Key;
-use crate::page::{Page, WIDTH};
-use crate::pages::{clear, find, next, page_for};
+use crate::page::{Page, Spare, WIDTH};
+use crate::pages::{clear, find, next, on_last, page_for, search};
 use io_ports::NoMemory;
 use std::alloc::Global;
 use std::marker::{Model, PhantomData};
@@ -29,6 +29,8 @@ pub struct PagedMap<K: Key, V> {
     len: usize,
     // In the order of their indexes. None is blank but the last.
     pages: Vec<Page<V>>,
+    // A page that went, for the next that comes.
+    spare: Spare<V>,
 }
 
 impl<K: Key, V> Model for PagedMap<K, V> {
@@ -56,6 +58,7 @@ impl<K: Key, V> PagedMap<K, V> {
             keys: PhantomData,
             len: 0,
             pages: Vec::new(alloc),
+            spare: Spare::none(),
         }
     }
 
@@ -83,7 +86,20 @@ impl<K: Key, V> PagedMap<K, V> {
         ensures value { option_copied result ≡ value_at (K.number key.now) self.now }
     {
         let number = key.number();
-        match find(self.pages.as_slice(), number / WIDTH) {
+        match on_last(self.pages.as_slice(), number / WIDTH) {
+            Some(place) => self.pages[place].get((number % WIDTH) as usize),
+            None => self.get_far(*key),
+        }
+    }
+
+    // The same where the key isn't on the last page. It isn't inlined, so that a look-up on the last page stays short wherever it
+    // stands.
+    #[inline(never)]
+    fn get_far(&self, key: K) -> Option<&V>
+        ensures value { option_copied result ≡ value_at (K.number key) self.now }
+    {
+        let number = key.number();
+        match search(self.pages.as_slice(), number / WIDTH) {
             Ok(place) => self.pages[place].get((number % WIDTH) as usize),
             Err(_) => None,
         }
@@ -139,7 +155,7 @@ impl<K: Key, V> PagedMap<K, V> {
         if self.len == MOST {
             return Err(NoMemory);
         }
-        let place = page_for(&mut self.pages, self.alloc, number / WIDTH)?;
+        let place = page_for(&mut self.pages, &mut self.spare, self.alloc, number / WIDTH)?;
         let old = self.pages[place].put((number % WIDTH) as usize, value);
         if old.is_some() {
             return Ok(old);
@@ -163,7 +179,7 @@ impl<K: Key, V> PagedMap<K, V> {
         if self.len == MOST {
             return Err(NoMemory);
         }
-        let place = page_for(&mut self.pages, self.alloc, number / WIDTH)?;
+        let place = page_for(&mut self.pages, &mut self.spare, self.alloc, number / WIDTH)?;
         if self.pages[place].set((number % WIDTH) as usize, value) {
             return Ok(());
         }
@@ -191,7 +207,7 @@ impl<K: Key, V> PagedMap<K, V> {
         }
         let old = self.pages[place].take(slot);
         self.len -= 1;
-        clear(&mut self.pages, place);
+        clear(&mut self.pages, &mut self.spare, place);
         old
     }
 
@@ -213,7 +229,7 @@ impl<K: Key, V> PagedMap<K, V> {
         if self.pages[place].has(slot) {
             self.pages[place].discard(slot);
             self.len -= 1;
-            clear(&mut self.pages, place);
+            clear(&mut self.pages, &mut self.spare, place);
         }
     }
 }

@@ -5,7 +5,7 @@ ghost use Rattle.paged_map.specs.Pages.{IsIndex, entries_from, width};
 ghost use Rattle.std.specs.Borrow.{sem};
 ghost use Rattle.std.specs.Map.{keys_of};
 ghost use Rattle.std.specs.Option.{option_copied};
-ghost use Rattle.std.specs.Prelude.{◌≡◌, ◌==◌, ◌<◌, ◌≤◌, ◌+◌, ◌*◌, IfOk, None, Some, count_by, drop, false, is_some, length, slice_index_or, slice_set, true};
+ghost use Rattle.std.specs.Prelude.{◌≡◌, ◌==◌, ◌<◌, ◌≤◌, ◌+◌, ◌*◌, IfOk, IfSome, None, Some, count_by, drop, false, is_some, length, slice_index_or, slice_set, true};
 
 use io_ports::NoMemory;
 use std::alloc::Global;
@@ -203,6 +203,56 @@ impl<V> Page<V> {
     {
         self.slots[slot] = None;
         self.used -= 1;
+    }
+}
+
+/// A page without values that is kept for the next that comes, if there is one.
+#[derive(Drop)]
+pub(crate) struct Spare<V> {
+    page: Option<Page<V>>,
+}
+
+impl<V> Model for Spare<V> {
+    ghost use Rattle.std.specs.Prelude.{◌≡◌, IfSome, List, Option, count_by, is_some, ℕ};
+
+    ghost Value = { Option (ℕ × List (Option V)) };
+
+    ghost view = { λ s. s.page };
+
+    ghost invariant = { λ s. IfSome s.page (λ page. count_by is_some page.1 ≡ 0) };
+}
+
+impl<V> Spare<V> {
+    /// None is kept.
+    pub(crate) fn none() -> Self {
+        Spare { page: None }
+    }
+
+    /// A page without values for these numbers: the one that is kept, or else a new one.
+    pub(crate) fn take(&mut self, alloc: Global, index: u64) -> Result<Page<V>, NoMemory>
+    where
+        V: Drop,
+        requires { IsIndex index }
+        ensures index { IfOk result (λ page. page.0 ≡ index) }
+        ensures blank { IfOk result (λ page. count_by is_some page.1 ≡ 0) }
+        ensures long { IfOk result (λ page. length page.1 ≡ width) }
+    {
+        match self.page.take() {
+            Some(mut page) => {
+                page.turn(index);
+                Ok(page)
+            }
+            None => Page::new(alloc, index),
+        }
+    }
+
+    /// A page without values is kept from now on, and no other.
+    pub(crate) fn keep(&mut self, page: Page<V>)
+    where
+        V: Drop,
+        requires { count_by is_some page.1 ≡ 0 }
+    {
+        self.page = Some(page);
     }
 }
 

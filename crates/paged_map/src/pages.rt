@@ -3,9 +3,9 @@ ghost use Rattle.number_set.specs.NumberMap.{IsAt, IsGap, IsSorted};
 ghost use Rattle.number_set.specs.NumberSet.{first, first_above};
 ghost use Rattle.paged_map.specs.Pages.{AreOrdered, IsIndex, entries_on, width};
 ghost use Rattle.std.specs.Map.{keys_of};
-ghost use Rattle.std.specs.Prelude.{◌≡◌, ◌<◌, IfOk, IfSome, MatchResult, count_by, is_some, length};
+ghost use Rattle.std.specs.Prelude.{◌≡◌, ◌<◌, [], IfOk, IfSome, MatchResult, count_by, is_some, length, slice_index_or};
 
-use crate::page::{Page, WIDTH};
+use crate::page::{Page, Spare, WIDTH};
 use io_ports::NoMemory;
 use std::alloc::Global;
 
@@ -27,10 +27,23 @@ pub(crate) fn find<V>(pages: &[Page<V>], index: u64) -> Result<usize, usize>
     }
 }
 
-// The same without a look at the last: as far from the first page as the index is, or else by halves. It isn't inlined, so that a
-// look-up on the last page stays short wherever it stands.
+/// Where the last page stands, if it has an index.
+#[inline(always)]
+pub(crate) fn on_last<V>(pages: &[Page<V>], index: u64) -> Option<usize>
+    requires { IsSorted pages.now }
+    ensures { IfSome result (λ i. IsAt index i pages.now) }
+{
+    let last = pages.last()?;
+    if last.index() == index {
+        return Some(pages.len() - 1);
+    }
+    None
+}
+
+/// The same as `find` without a look at the last: as far from the first page as the index is, or else by halves. It isn't inlined,
+/// so that a look-up on the last page stays short wherever it stands.
 #[inline(never)]
-fn search<V>(pages: &[Page<V>], index: u64) -> Result<usize, usize>
+pub(crate) fn search<V>(pages: &[Page<V>], index: u64) -> Result<usize, usize>
     requires { IsSorted pages.now }
     ensures { MatchResult result (λ i. IsAt index i pages.now) (λ i. IsGap index i pages.now) }
 {
@@ -122,6 +135,7 @@ fn first_on<V>(pages: &[Page<V>]) -> Option<u64>
 #[inline(always)]
 pub(crate) fn page_for<V: Drop>(
     pages: &mut Vec<Page<V>>,
+    spare: &mut Spare<V>,
     alloc: Global,
     index: u64,
 ) -> Result<usize, NoMemory>
@@ -133,21 +147,26 @@ pub(crate) fn page_for<V: Drop>(
 {
     match find(pages.as_slice(), index) {
         Ok(place) => Ok(place),
-        Err(_) => add(pages, alloc, index),
+        Err(_) => add(pages, spare, alloc, index),
     }
 }
 
-// A page comes, unless it is there: the last one, where it is blank, or else a new one. One value in sixteen needs it, so it isn't
-// inlined.
+// A page comes, unless it is there: the last one, where it is blank, or else the spare one or a new one. One value in sixteen needs
+// it, so it isn't inlined.
 #[inline(never)]
-fn add<V: Drop>(pages: &mut Vec<Page<V>>, alloc: Global, index: u64) -> Result<usize, NoMemory>
+fn add<V: Drop>(
+    pages: &mut Vec<Page<V>>,
+    spare: &mut Spare<V>,
+    alloc: Global,
+    index: u64,
+) -> Result<usize, NoMemory>
     requires index { IsIndex index }
     requires ordered { AreOrdered pages.old.items }
     ensures place { IfOk result (λ place. IsAt index place pages.new.items) }
     ensures ordered { AreOrdered pages.new.items }
     ensures same { entries_on pages.new.items ≡ entries_on pages.old.items }
 {
-    let page = blank(pages, alloc, index)?;
+    let page = blank(pages, spare, alloc, index)?;
     match find(pages.as_slice(), index) {
         Ok(place) => Ok(place),
         Err(place) => {
@@ -158,7 +177,12 @@ fn add<V: Drop>(pages: &mut Vec<Page<V>>, alloc: Global, index: u64) -> Result<u
 }
 
 // A blank page, which is taken from the end where the last is blank.
-fn blank<V: Drop>(pages: &mut Vec<Page<V>>, alloc: Global, index: u64) -> Result<Page<V>, NoMemory>
+fn blank<V: Drop>(
+    pages: &mut Vec<Page<V>>,
+    spare: &mut Spare<V>,
+    alloc: Global,
+    index: u64,
+) -> Result<Page<V>, NoMemory>
     requires index { IsIndex index }
     requires ordered { AreOrdered pages.old.items }
     ensures index { IfOk result (λ page. page.0 ≡ index) }
@@ -169,7 +193,7 @@ fn blank<V: Drop>(pages: &mut Vec<Page<V>>, alloc: Global, index: u64) -> Result
 {
     let len = pages.len();
     if len == 0 || !pages[len - 1].is_blank() {
-        return Page::new(alloc, index);
+        return spare.take(alloc, index);
     }
     let mut page = pages.remove(len - 1);
     page.turn(index);
@@ -178,26 +202,25 @@ fn blank<V: Drop>(pages: &mut Vec<Page<V>>, alloc: Global, index: u64) -> Result
 
 /// A blank page goes, unless it is the last: its numbers or greater ones come next.
 #[inline(always)]
-pub(crate) fn clear<V: Drop>(pages: &mut Vec<Page<V>>, place: usize)
+pub(crate) fn clear<V: Drop>(pages: &mut Vec<Page<V>>, spare: &mut Spare<V>, place: usize)
     requires ordered { AreOrdered pages.old.items }
     requires place { place < length pages.old.items }
     ensures ordered { AreOrdered pages.new.items }
     ensures same { entries_on pages.new.items ≡ entries_on pages.old.items }
 {
-    if place < pages.len() - 1 {
-        drop_blank(pages, place);
+    if place < pages.len() - 1 && pages[place].is_blank() {
+        put_aside(pages, spare, place);
     }
 }
 
-// A page goes if it is blank. It isn't inlined: most values go from the last page.
+// A blank page goes, and is the spare one. One value in sixteen needs it, so it isn't inlined.
 #[inline(never)]
-fn drop_blank<V: Drop>(pages: &mut Vec<Page<V>>, place: usize)
+fn put_aside<V: Drop>(pages: &mut Vec<Page<V>>, spare: &mut Spare<V>, place: usize)
     requires ordered { AreOrdered pages.old.items }
     requires place { place < length pages.old.items }
+    requires blank { count_by is_some (slice_index_or pages.old.items place (0, [])).1 ≡ 0 }
     ensures ordered { AreOrdered pages.new.items }
     ensures same { entries_on pages.new.items ≡ entries_on pages.old.items }
 {
-    if pages[place].is_blank() {
-        drop(pages.remove(place));
-    }
+    spare.keep(pages.remove(place));
 }

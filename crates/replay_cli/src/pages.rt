@@ -14,7 +14,7 @@ pub const USAGE: &str =
 ";
 
 pub const HELP: &str =
-    "h2replay replays a recorded session, one dispatch for each line, and writes every step that the core took: the tape.
+    "h2replay replays a recorded session, event by event, and writes every step that the core took: the tape.
 
   h2replay plain         a session of streams that send into one connection, from standard input
   h2replay wire CONFIG   a session of HTTP/2 connections, from standard input; CONFIG is the file of the configuration

@@ -6,7 +6,7 @@ use Rattle.paged_map.specs.PagedMap.{PagedMap, Updates, value_at}
 use Rattle.proxy_config.specs.declared.overload.Point.{Point}
 use Rattle.proxy_config.specs.declared.overload.ShedRow.{ShedRow}
 use Rattle.shed_points.proofs.Sums.{due_is, rest_is}
-use Rattle.shed_points.specs.Shedders.{IsNumbered, Judges, ShedderIs, share_at}
+use Rattle.shed_points.specs.Shedders.{Forgets, IsNumbered, Judges, ShedderIs, share_at}
 use Rattle.shed_points.specs.Shedding.{Became, Judged, accepted_as, events_of, grows, is_point, is_same, is_shed, point_state, read_point, share_of, shed_at, standing_of, state_after, sum_at, verdict_at}
 use Rattle.shed_points.specs.declared.shedder.Shedder.{Shedder}
 use Rattle.shed_points.specs.declared.shedder.Standing.{Standing}
@@ -78,6 +78,13 @@ gone_judged old new c v is u er es ep = record {
       posts_are = ep ∙ i.posts_are ∙ sym (ap (λ w. shed_at point.Drain (Became (event.Gone c) w ∷ js)) is ∙ none_shed point.Drain (event.Gone c) (is_shed (value_at c old.clients)) js);
     },
   );
+}
+
+pub forgotten : (old new : Shedder) (c : ℕ) (v : Verdict) → Judges old (event.Gone c) new (Ok v) → Forgets old c new
+forgotten old new c v j = record {
+  goes = λ rows js i.
+      let k = j.goes rows js i in
+      subst (λ (w : Verdict). ShedderIs new rows (Became (event.Gone c) w ∷ js)) k.0 k.2;
 }
 
 -- ---- those that arrive

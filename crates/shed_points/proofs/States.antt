@@ -2,16 +2,37 @@
 use Rattle.flow_notes.specs.declared.events.Event.{Event}
 use Rattle.overload_core.specs.ActionStates.{greatest_of}
 use Rattle.overload_core.specs.States.{state_of}
+use Rattle.proxy_config.specs.contracts.overload.PointPartialEq.TheImpl as point_eq
 use Rattle.proxy_config.specs.declared.overload.Form.{Form}
 use Rattle.proxy_config.specs.declared.overload.Point.{Point}
 use Rattle.proxy_config.specs.declared.overload.ShedRow.{ShedRow}
 use Rattle.shed_points.specs.Shedding.{is_same, point_state, row_state, state_after, state_at}
-use Rattle.std.proofs.Common.{Bool, ap, arith, false, refl, true, ℕ, ◌*◌, ◌-◌, ◌/◌, ◌∙◌, ◌≡◌, ◌≤◌}
+use Rattle.std.proofs.Common.{Bool, ap, arith, false, refl, sym, true, ℕ, ◌*◌, ◌-◌, ◌/◌, ◌∙◌, ◌≡◌, ◌≤◌}
 use Rattle.std.proofs.lemmas.Bool.{leb-false}
 use Rattle.std.proofs.lemmas.Nat.{div_below}
 use Rattle.std.specs.Prelude.{List, [], cond, filter, if◌then◌else◌, length, map, max, nat_le, slice_index, ◌∷◌}
 use Rattle.flow_notes.specs.declared.events.Event.TheVariants as event
 use Rattle.proxy_config.specs.declared.overload.Form.TheVariants as form
+use Rattle.proxy_config.specs.declared.overload.Point.TheVariants as point
+
+-- what `==` of two points answers
+eq_is : (p q : Point) → (point_eq.ghosts).eq p q ≡ is_same p q
+eq_is point.Accept point.Accept = refl
+eq_is point.Accept point.Read = refl
+eq_is point.Accept point.Drain = refl
+eq_is point.Read point.Accept = refl
+eq_is point.Read point.Read = refl
+eq_is point.Read point.Drain = refl
+eq_is point.Drain point.Accept = refl
+eq_is point.Drain point.Read = refl
+eq_is point.Drain point.Drain = refl
+
+-- a row of this point, and one of another
+pub own_row : (r : ShedRow) (ps : List ℕ) (p : Point) (n : ℕ) → (point_eq.ghosts).eq r.point p ≡ true → n ≡ row_state r ps → n ≡ state_at r ps p
+own_row r ps p n same is = is ∙ sym (ap (λ b. if b then row_state r ps else 0) (sym (eq_is r.point p) ∙ same))
+
+pub other_row : (r : ShedRow) (ps : List ℕ) (p : Point) → (point_eq.ghosts).eq r.point p ≡ false → 0 ≡ state_at r ps p
+other_row r ps p other = sym (ap (λ b. if b then row_state r ps else 0) (sym (eq_is r.point p) ∙ other))
 
 picked : (ps : List ℕ) (r : ShedRow) (rest : List ShedRow) (b : Bool) → greatest_of (map (λ (u : ShedRow). row_state u ps) (cond b (r ∷ rest) rest)) ≡ max (if b then row_state r ps else 0) (greatest_of (map (λ (u : ShedRow). row_state u ps) rest))
 unfolding greatest_of

@@ -9,6 +9,7 @@ use Rattle.shed_points.specs.declared.share.Share.{Share}
 use Rattle.shed_points.specs.declared.shedder.Shedder.{Shedder}
 use Rattle.shed_points.specs.declared.verdict.Verdict.{Verdict}
 use Rattle.std.specs.Prelude.{Err, List, Ok, Result, ℕ, ◌%◌, ◌<◌, ◌^◌, ◌∷◌, ◌≡◌}
+use Rattle.flow_notes.specs.declared.events.Event.TheVariants as event
 use Rattle.proxy_config.specs.declared.overload.Point.TheVariants as point
 use Rattle.shed_points.specs.declared.verdict.Verdict.TheVariants as verdict
 
@@ -38,3 +39,7 @@ JudgedAs rows js e new (Err x) = ShedderIs new rows js
 
 pub record Judges (old : Shedder) (e : Event) (new : Shedder) (result : Result Verdict NoMemory) : Type 0 where
   pub goes : (rows : List ShedRow) (js : List Judged) → ShedderIs old rows js → JudgedAs rows js e new result
+
+-- A connection is gone without an event of it: from then on the shedder stands as behind its loss.
+pub record Forgets (old : Shedder) (c : ℕ) (new : Shedder) : Type 0 where
+  pub goes : (rows : List ShedRow) (js : List Judged) → ShedderIs old rows js → ShedderIs new rows (Became (event.Gone c) (verdict_of rows (event.Gone c) js) ∷ js)

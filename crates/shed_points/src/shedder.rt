@@ -1,5 +1,5 @@
 // What sheds the arrivals of a worker.
-ghost use Rattle.shed_points.specs.Shedding.{is_same, point_state, row_state, state_at};
+ghost use Rattle.shed_points.specs.Shedding.{point_state, row_state, state_at};
 ghost use Rattle.shed_points.specs.Dispatching.{Carries};
 ghost use Rattle.shed_points.specs.ShedList.{as_list, kept};
 ghost use Rattle.std.specs.Prelude.{◌≡◌, ◌∷◌, ◌≤◌, [], OnOk, if◌then◌else◌};
@@ -29,14 +29,15 @@ pub enum Standing {
     Shed,
 }
 
-/// The load shed points of a worker, under the shed table of its configuration. It grows with the clients that are there alone.
+/// The load shed points of a worker, under the shed table of its configuration. A client's connection is remembered from its accept until
+/// its `Gone`. One that the worker closes itself, since it was shed or the core closed it, has none: `forget` says that it is gone.
 #[derive(Drop)]
 pub struct Shedder {
     rows: Vec<ShedRow>,
     accept: Share,
     read: Share,
     drain: Share,
-    /// The connections of clients that are there.
+    /// The connections of clients that are remembered.
     clients: PagedMap<u32, Standing>,
     /// How many drains were shed, each of which made a post.
     posts: u64,
@@ -51,7 +52,7 @@ impl Shedder {
     ghost use Rattle.paged_map.specs.PagedMap.{value_at};
     ghost use Rattle.proxy_config.specs.declared.overload.Point.{Point};
     ghost use Rattle.shed_points.specs.Dispatching.{Sheds};
-    ghost use Rattle.shed_points.specs.Shedders.{Judges, ShedderIs, share_at};
+    ghost use Rattle.shed_points.specs.Shedders.{Forgets, Judges, ShedderIs, share_at};
     ghost use Rattle.shed_points.specs.Shedding.{Judged, events_of, is_shed, point_state, state_after};
     ghost use Rattle.shed_points.specs.declared.shedder.Standing.TheVariants as standing;
     ghost use Rattle.shed_points.specs.declared.verdict.Verdict.TheVariants as verdict;
@@ -109,6 +110,15 @@ impl Shedder {
                 Ok(Verdict::Pass)
             }
         }
+    }
+
+    /// A connection is gone without an event of it. Nothing is dispatched, and from then on nothing is remembered of the connection: what
+    /// comes is judged as behind its `Gone`.
+    pub fn forget(&mut self, conn: u32)
+        ensures forgets { Forgets self.old conn self.new }
+        ensures failed { self.new.failed ≡ self.old.failed }
+    {
+        self.go(conn);
     }
 
     /// Judges the next event, and dispatches what it comes to (`keeps`, `instead`) to a core of wire sessions, which only this shedder
@@ -319,24 +329,15 @@ fn point_state(rows: &[ShedRow], pressures: &[u32], point: Point) -> u32
 }
 
 // The state of a row of this point, and 0 of another.
+#[tactic(auto, using(crate::proofs::States::own_row, crate::proofs::States::other_row))]
 fn state_at(row: &ShedRow, pressures: &[u32], point: Point) -> u32
     ensures state { result ≡ state_at row.now pressures.now point }
     ensures most { result ≤ 1000000 }
 {
-    if is_same(row.point, point) {
+    if row.point == point {
         row_state(row, pressures)
     } else {
         0
-    }
-}
-
-fn is_same(one: Point, other: Point) -> bool
-    ensures { result ≡ is_same one other }
-{
-    match one {
-        Point::Accept => matches!(other, Point::Accept),
-        Point::Read => matches!(other, Point::Read),
-        Point::Drain => matches!(other, Point::Drain),
     }
 }
 

@@ -2,20 +2,21 @@
 use Rattle.exchange_core.specs.Exchange.{flow_id}
 use Rattle.flow_gate.proofs.SameIds.{same_flow-refl}
 use Rattle.flow_gate.specs.Board.{Board, IsSound as AreSoundGates, is_known, is_marked, is_open, times, watchers_of}
-use Rattle.flow_gate.specs.Changes.{Begins, Forgets, Watches}
+use Rattle.flow_gate.specs.Changes.{Begins, Forgets, IsSeenAs, Opens, Watches}
 use Rattle.flow_gate.specs.Ids.{is_own, same_flow}
 use Rattle.flow_rules.specs.declared.ids.BufferId.{BufferId}
 use Rattle.flow_rules.specs.declared.ids.FlowId.{FlowId}
 use Rattle.proxy_config.specs.declared.routes.Filter.{Filter}
 use Rattle.io_ports.specs.declared.octets.NoMemory.{NoMemory}
-use Rattle.std.proofs.Common.{ap, refl, subst, sym, ◌∙◌}
+use Rattle.std.proofs.Common.{ap, arith, refl, subst, sym, ◌∙◌}
+use Rattle.std.proofs.lemmas.Bool.{eqb-true}
 use Rattle.std.specs.Option.{option_map_or}
-use Rattle.std.specs.Prelude.{Bool, Err, IfOk, IfSome, List, None, Ok, OnErr, OnOk, Option, Result, Some, [], false, if◌then◌else◌, true, ℕ, ◌&&◌, ◌++◌, ◌==◌, ◌||◌, ◌∷◌, ◌≡◌}
-use Rattle.wire_flows.proofs.Begun.{begins_flow, grows_more, grows_none, watch_write_grows}
+use Rattle.std.specs.Prelude.{Bool, Err, IfOk, IfSome, List, None, Ok, OnErr, OnOk, Option, Result, Some, [], false, if◌then◌else◌, length, true, ℕ, ◌&&◌, ◌++◌, ◌==◌, ◌||◌, ◌∷◌, ◌≡◌}
+use Rattle.wire_flows.proofs.Begun.{all_watched, begins_flow, grows_more, grows_none, watch_grows, watch_own, watch_write_grows, watches_none, write_watched}
 use Rattle.wire_flows.proofs.Cases.{by_case, not_both}
 use Rattle.wire_flows.proofs.Owners.{own_exact}
 use Rattle.wire_flows.proofs.Restored.{Partial, closed_none, closed_watches, partly_begun, restored, same_board, wholly_begun}
-use Rattle.wire_flows.specs.Begins.{BeginsBoth, BeginsFlow, Grows, IsFresh, IsSame, WatchesAll, WatchesOwn, is_held_by, meters}
+use Rattle.wire_flows.specs.Begins.{BeginsBoth, BeginsFlow, Grows, IsFresh, IsSame, WatchesAll, WatchesOwn, is_held_by, meters, watches_from}
 use Rattle.flow_rules.specs.declared.ids.BufferId.TheVariants as buffer
 
 -- ---- what a flow that grows keeps
@@ -73,6 +74,23 @@ module _ (f : FlowId) (old mid : Board) (b : Begins f old mid) where
 
   pub begun_back : (part new : Board) → Grows f mid part → Forgets f part new → is_open old f ≡ false → IsFresh f old → AreSoundGates old → IsSame old new
   begun_back part new g k shut fresh s = restored f old part new (partly_begun f old mid part b g) k shut fresh s
+
+-- ---- a flow that begins without Meters, in one call
+module _ (f : FlowId) (c : ℕ) (old new : Board) where
+  pub sender_begins : Opens f c old new → is_open old f ≡ false → BeginsFlow f (buffer.Send f ∷ buffer.Write c ∷ []) (Some c) old new
+  sender_begins o shut = begun_all f old o.begun o.begins (buffer.Send f ∷ buffer.Write c ∷ []) (Some c) new shut
+      (grows_more f o.begun o.watching new (watch_grows f (buffer.Send f) o.begun o.known (same_flow-refl f) o.knows o.watching o.watches_send) (watch_write_grows f c o.watching new o.watches_write))
+      (all_watched f [] o.begun o.begun o.watching (watches_none f o.begun) (watch_own f (buffer.Send f) o.begun o.known (same_flow-refl f) o.knows o.watching o.watches_send)
+      (Some c) new (write_watched f c o.watching new o.watches_write))
+
+  pub sender_all : (filters : List Filter) (to : Option ℕ) (r : Result Bool NoMemory) → (length filters == 0) ≡ true → to ≡ Some c → is_open old f ≡ false →
+      OnOk r (Opens f c old new) → OnOk r (BeginsFlow f (watches_from f filters to) to old new)
+  sender_all (x ∷ xs) to r none is shut o = absurd (let zero = eqb-true (length (x ∷ xs)) 0 none in omega (arith, zero))
+  sender_all [] to r none is shut o = subst (λ t. OnOk r (BeginsFlow f (watches_from f [] t) t old new)) (sym is)
+      (either_watched r (Opens f c old new) (BeginsFlow f (watches_from f [] (Some c)) (Some c) old new) (λ h. sender_begins h shut) o)
+
+  pub seen_same : IsSeenAs old new → IsSame old new
+  seen_same s = record { flows = s.flows; watched = s.watched; buffers = s.buffers; marks = s.marks; watchers = s.watchers; pending = s.pending }
 
 -- ---- the response after the request
 apart_sides : (x : ℕ) → same_flow (flow_id x false) (flow_id x true) ≡ false

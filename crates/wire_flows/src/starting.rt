@@ -125,6 +125,30 @@ fn begin(
     ensures sound { AreSoundGates gates.new }
     ensures err { OnErr result (IsSame gates.old gates.new) }
 {
+    match to {
+        Some(conn) if filters.is_empty() => gates.open_sender(flow, conn),
+        _ => begin_slowly(gates, flow, filters, to),
+    }
+}
+
+// As `begin`, where the flow may have Meters or goes nowhere. Few do, so it isn't inlined.
+#[inline(never)]
+fn begin_slowly(
+    gates: &mut Gates,
+    flow: FlowId,
+    filters: &[Filter],
+    to: Option<u32>,
+) -> Result<bool, NoMemory>
+    requires sound { AreSoundGates gates.old }
+    requires new { is_open gates.old flow ≡ false }
+    requires fresh { IsFresh flow gates.old }
+    requires few { length filters.now ≤ 8 }
+    requires to { IfSome to (λ c. is_known gates.old (BufferId.Write c) ≡ true) }
+    ensures answer { IfOk result (λ held. held ≡ is_held_by to gates.old) }
+    ensures ok { OnOk result (BeginsFlow flow (watches_from flow filters.now to) to gates.old gates.new) }
+    ensures sound { AreSoundGates gates.new }
+    ensures err { OnErr result (IsSame gates.old gates.new) }
+{
     gates.open_flow(flow)?;
     match watch_all(gates, flow, filters, to) {
         Ok(held) => Ok(held),

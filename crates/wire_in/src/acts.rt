@@ -21,6 +21,7 @@ use wire_outlet::Control;
 use wire_state::{Task, WireCore};
 
 /// The effect of a frame that was taken from a connection.
+#[inline(always)]
 pub(crate) fn take_act(
     core: &mut WireCore,
     number: u32,
@@ -49,8 +50,43 @@ pub(crate) fn take_act(
             let content = Content::of(octets, padded, content);
             body(core, number, stream, content, last, notes)
         }
-        Act::Late { stream, .. } => late(core, number, stream, content, notes),
         Act::Head { stream, last, .. } => head(core, number, stream, reading, last, notes),
+        Act::WindowUp { stream, n } => window_up(core, number, stream, n, notes),
+        act => {
+            let taken = Taken {
+                act,
+                content,
+                reading,
+                is_update,
+            };
+            take_other(core, number, taken, notes)
+        }
+    }
+}
+
+// The effect of a frame whose act comes seldom.
+#[cold]
+#[inline(never)]
+fn take_other(
+    core: &mut WireCore,
+    number: u32,
+    taken: Taken,
+    notes: &mut Notes,
+) -> Result<(), NoMemory>
+    requires sound { IsSound core.old }
+    ensures sound { OnOk result (IsSound core.new) }
+    ensures go { OnOk result (to_go core.new ≤ to_go core.old + 300 + 392 * taken.content) }
+    ensures notes { Appends notes.old notes.new }
+    ensures octets { Goes result core.old notes.old core.new notes.new }
+{
+    let Taken {
+        act,
+        content,
+        reading,
+        is_update,
+    } = taken;
+    match act {
+        Act::Late { stream, .. } => late(core, number, stream, content, notes),
         Act::Trailers { stream, .. } => trailers(core, number, stream, reading, notes),
         Act::OldBlock { .. } => old_block(core, number, reading, notes),
         Act::StreamError { stream, code, .. } => {

@@ -138,8 +138,7 @@ pub(crate) fn begin(
     ensures octets { KeepsOk result core.old core.new }
 {
     put_head(core, course.flow, fields, last)?;
-    end_where(core, last, course, stream)?;
-    core.refresh(course)
+    end_where(core, last, course, stream)
 }
 
 // The head, where there is one, waits to be framed.
@@ -243,8 +242,7 @@ pub(crate) fn trailers(
         return fault.end(core, number, notes);
     }
     finish(core, course.flow, fields)?;
-    core.flow_ended(course, stream)?;
-    core.refresh(course)
+    core.flow_ended(course, stream)
 }
 
 // What the body of a flow has to be.

@@ -1,5 +1,6 @@
 // The frames of the octets that were read.
 ghost use Rattle.std.specs.Prelude.{◌≡◌, ◌<◌, ◌≤◌, ◌+◌, IfOk, OnOk};
+ghost use Rattle.wire_inlet.specs.Next.{intake_of};
 ghost use Rattle.wire_state.specs.Intakes.{PaysFor};
 ghost use Rattle.wire_state.specs.Agenda.{top_go};
 ghost use Rattle.wire_state.specs.Noting.{Appends};
@@ -11,10 +12,11 @@ use crate::acts::take_act;
 use flow_notes::{CloseCause, Notes};
 use io_ports::NoMemory;
 use wire_ends::close;
-use wire_inlet::Intake;
+use wire_inlet::{Front, Taken};
 use wire_state::{Task, WireCore};
 
 /// The task Read: the next frame of the connection is taken.
+#[inline(never)]
 pub fn read(core: &mut WireCore, number: u32, notes: &mut Notes) -> Result<(), NoMemory>
     requires sound { IsSound core.old }
     requires top { top_go core.old.agenda ≡ 4 }
@@ -23,23 +25,37 @@ pub fn read(core: &mut WireCore, number: u32, notes: &mut Notes) -> Result<(), N
     ensures notes { Appends notes.old notes.new }
     ensures octets { Goes result core.old notes.old core.new notes.new }
 {
-    let Ok(intake) = next(core, number) else {
-        return Err(NoMemory);
-    };
-    match intake {
-        Intake::Need => {
+    let mut taken = Taken::none();
+    match next(core, number, &mut taken) {
+        Ok(Front::Taken) => {
+            let Ok(()) = follow_up(core, number) else {
+                let_go(taken);
+                return Err(NoMemory);
+            };
+            take_act(core, number, taken, notes)
+        }
+        Ok(Front::Need) => {
+            let_go(taken);
             core.end_task();
             Ok(())
         }
-        Intake::Fault(code) => {
+        Ok(Front::Fault(code)) => {
+            let_go(taken);
             core.end_task();
             close(core, number, code, CloseCause::Protocol, notes)
         }
-        Intake::Taken(taken) => {
-            follow_up(core, number)?;
-            take_act(core, number, taken, notes)
+        Err(error) => {
+            let_go(taken);
+            Err(error)
         }
     }
+}
+
+// Lets go what is in the place of a frame. It is a call of its own, so that nothing of it stands where a frame is taken.
+#[cold]
+#[inline(never)]
+fn let_go(taken: Taken) {
+    drop(taken);
 }
 
 // What follows each frame that was read, whatever it means: the connection has changed, and may have something to frame.
@@ -75,17 +91,18 @@ fn is_read(core: &WireCore, number: u32) -> bool {
     }
 }
 
-// What stands at the front of the octets of a connection: nothing where it is closed.
-fn next(core: &mut WireCore, number: u32) -> Result<Intake, NoMemory>
+// What stands at the front of the octets of a connection: nothing where it is closed. A frame that is taken is put into `into`.
+#[inline(always)]
+fn next(core: &mut WireCore, number: u32, into: &mut Taken) -> Result<Front, NoMemory>
     requires sound { IsSound core.old }
     ensures sound { OnOk result (IsSound core.new) }
-    ensures go { IfOk result (λ intake. PaysFor intake (to_go core.old) (to_go core.new)) }
+    ensures go { IfOk result (λ front. PaysFor (intake_of front into.new) (to_go core.old) (to_go core.new)) }
     ensures agenda { core.new.agenda ≡ core.old.agenda }
     ensures octets { KeepsOk result core.old core.new }
 {
     let most = core.config.limits.frame_size;
     let Some(conn) = core.conns.get_mut(&number) else {
-        return Ok(Intake::Need);
+        return Ok(Front::Need);
     };
-    conn.take_frame(most)
+    conn.take_frame(most, into)
 }

@@ -6,7 +6,7 @@ use Rattle.h2_frames.specs.Frame.{Continuation, DataFrame, Frame, GoAway, Header
 use Rattle.h2_frames.specs.Frames.{SpellsFrame}
 use Rattle.h2_frames.specs.Head.{head_octets, tells_padding}
 use Rattle.h2_frames.specs.Payload.{IsPadded}
-use Rattle.wire_inlet.specs.Ends.{EndsAt}
+use Rattle.wire_inlet.specs.Payloads.{EndsAt}
 
 -- a payload without padding is the content
 content_alone : (b : Bool) (payload content : List ℕ) (padded : ℕ) → padded ≡ 0 → IsPadded b payload padded content → payload ≡ content
@@ -51,8 +51,8 @@ frame_ends max front frames used (Continuation stream end_headers block) most s 
 frame_ends max front frames used (Unknown kind flags stream octets) most s = tt
 
 -- where the octets are looked at as a slice
-pub ends_at : (max : ℕ) (front frames unread slice : List ℕ) (used : ℕ) (frame : Frame) → slice ≡ unread → slice ≡ front ++ frames → used ≤ length frames
-    → SpellsFrame max (take used frames) frame → EndsAt (length slice - length frames + used) unread frame
-ends_at max front frames unread slice used frame is e most s =
-    let place : length front + used ≡ length slice - length frames + used = omega (arith, ap length e, length-append front frames) in
+pub ends_at : (max : ℕ) (front frames unread slice : List ℕ) (used end : ℕ) (frame : Frame) → slice ≡ unread → slice ≡ front ++ frames → end ≡ length slice - length frames + used → used ≤ length frames
+    → SpellsFrame max (take used frames) frame → EndsAt end unread frame
+ends_at max front frames unread slice used end frame is e at most s =
+    let place : length front + used ≡ end = omega (arith, ap length e, length-append front frames, at) in
     subst (λ (k : ℕ). EndsAt k unread frame) place (subst (λ (l : List ℕ). EndsAt (length front + used) l frame) (sym e ∙ is) (frame_ends max front frames used frame most s))

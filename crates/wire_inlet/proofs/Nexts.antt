@@ -12,10 +12,10 @@ use Rattle.wire_inlet.specs.declared.intake.Taken.{Taken}
 use Rattle.wire_inlet.proofs.Spelled.{content_within}
 
 -- behind a front and a piece of what follows it, where the octets are looked at as a slice
-pub left_behind : (front frames octets slice : List ℕ) (used : ℕ) → slice ≡ octets → slice ≡ front ++ frames
-    → drop (length slice - length frames + used) octets ≡ drop used frames
-left_behind front frames octets slice used is e =
-    let n : length slice - length frames + used ≡ length front + used = omega (arith, ap length e, length-append front frames) in
+pub left_behind : (front frames octets slice : List ℕ) (used read : ℕ) → slice ≡ octets → slice ≡ front ++ frames → read ≡ length slice - length frames + used
+    → drop read octets ≡ drop used frames
+left_behind front frames octets slice used read is e at =
+    let n : read ≡ length front + used = omega (arith, ap length e, length-append front frames, at) in
     ap (λ (k : ℕ). drop k octets) n ∙ ap (λ (l : List ℕ). drop (length front + used) l) (sym is ∙ e) ∙ drop-append-add front frames used
 
 -- a frame of so many octets was taken from those behind the preface

@@ -1,5 +1,5 @@
-pub mod Ends
 pub mod Incoming
 pub mod Meaning
 pub mod Next
+pub mod Payloads
 pub mod Unreads

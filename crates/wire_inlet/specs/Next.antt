@@ -10,9 +10,17 @@ use Rattle.h2_session.specs.Acts.{stream_of}
 use Rattle.std.specs.Prelude.{List, false, if◌then◌else◌, length, true, ℕ, ◌++◌, ◌+◌, ◌<◌, ◌^◌, ◌≡◌, ◌≤◌, ◌⊎◌}
 use Rattle.wire_inlet.specs.Incoming.{AreBehind, Incoming, meaning_of}
 use Rattle.wire_inlet.specs.Meaning.{IsKnown, Means}
+use Rattle.wire_inlet.specs.declared.intake.Front.{Front}
+use Rattle.wire_inlet.specs.declared.intake.Front.TheVariants as at_front
 use Rattle.wire_inlet.specs.declared.intake.Intake.{Intake}
 use Rattle.wire_inlet.specs.declared.intake.Intake.TheVariants as intake
 use Rattle.wire_inlet.specs.declared.intake.Taken.{Taken}
+
+-- what stands at the front, with the frame that was taken
+abbrev pub intake_of : Front → Taken → Intake
+intake_of at_front.Need taken = intake.Need
+intake_of (at_front.Fault code) taken = intake.Fault code
+intake_of at_front.Taken taken = intake.Taken taken
 
 -- the octets at the front are a proper front of the preface, or differ from it at some octet
 abbrev pub LacksPreface : List ℕ → Intake → Type 0

@@ -1,22 +1,20 @@
 // One connection's octets in.
-ghost use Rattle.std.specs.Prelude.{◌≡◌, ◌==◌, ◌++◌, ◌∷◌, ◌⊎◌, [], List, false, true, is_some, if◌then◌else◌, length, IfErr, IfOk, IfSome, IsErr, IsNone, MatchOption, OnErr, OnOk};
-ghost use Rattle.h2_frames.specs.View.{view};
-ghost use Rattle.h2_session.specs.Acts.{IsContentOf};
+ghost use Rattle.std.specs.Prelude.{◌≡◌, ◌==◌, ◌++◌, ◌∷◌, ◌⊎◌, [], List, false, true, is_some, if◌then◌else◌, length, IfErr, IfOk, IsErr, IsNone, MatchOption, OnErr, OnOk};
 ghost use Rattle.h2_session.specs.Happened.{Happening, Opened, Ended, Closed, Interim, next_stream};
 ghost use Rattle.h2_session.specs.Streams.{greatest_of_peer, is_open};
 ghost use Rattle.h2_session.specs.Summary.{StandsFor, noted};
 ghost use Rattle.h2_session.specs.Table.{stream_at};
 ghost use Rattle.hpack_codec.specs.Decoding.{decoder_with};
 ghost use Rattle.hpack_codec.specs.Table.{empty_table};
-ghost use Rattle.wire_inlet.specs.Ends.{EndsAt};
 ghost use Rattle.wire_inlet.specs.Incoming.{HasSessionOf, is_cluster, preface_left};
-ghost use Rattle.wire_inlet.specs.Next.{IsInside, IsShort, LacksPreface, NextOf};
+ghost use Rattle.wire_inlet.specs.Next.{IsInside, IsShort, LacksPreface, NextOf, intake_of};
 
-use crate::intake::{Intake, Peer};
+use crate::intake::{Front, Intake, Peer, Taken};
+use crate::payload::take_payload;
 use crate::reader::Reader;
 use crate::unread::Unread;
 use h2_frames::codes::PROTOCOL_ERROR;
-use h2_frames::{Frame, ReadFrame, read_frame};
+use h2_frames::{ReadHead, read_head};
 use h2_session::Prefaced;
 use io_ports::{NoMemory, Octets};
 use std::alloc::Global;
@@ -25,49 +23,29 @@ use std::marker::Model;
 /// The octets of the preface (RFC 9113 section 3.4).
 const PREFACE_LEN: usize = 24;
 
+/// The octets of a frame's head (RFC 9113 section 4.1).
+const HEAD_LEN: usize = 9;
+
 // The frames behind the preface, where it was read or stands whole at the front, or what is answered else.
 fn behind_preface<'a>(
     reader: &mut Reader,
     prefaced: bool,
     unread: &'a [u8],
-) -> Result<&'a [u8], Intake>
+) -> Result<&'a [u8], Front>
     ensures frames { IfOk result (λ frames. unread.now ≡ preface_left prefaced ++ frames.now) }
-    ensures answer { IfErr result (λ answer. (prefaced ≡ false) × LacksPreface unread.now answer) }
+    ensures answer { IfErr result (λ answer. (prefaced ≡ false) × ((taken : Taken) → LacksPreface unread.now (intake_of answer taken))) }
     ensures same { reader.new ≡ reader.old }
 {
     if prefaced {
         return Ok(unread);
     }
     match reader.take_preface(unread) {
-        Prefaced::Need => Err(Intake::Need),
-        Prefaced::Bad => Err(Intake::Fault(PROTOCOL_ERROR)),
+        Prefaced::Need => Err(Front::Need),
+        Prefaced::Bad => Err(Front::Fault(PROTOCOL_ERROR)),
         Prefaced::Done => {
             let (_, frames) = unread.split_at(PREFACE_LEN);
             Ok(frames)
         }
-    }
-}
-
-// The octets of a DATA frame without padding, or the entries of SETTINGS, that ends at a place. None after running out of memory
-// too: then the session copies them.
-fn content_before(unread: &Unread, end: usize, frame: &Frame) -> Option<Octets>
-    requires { EndsAt end unread.now (view frame.now) }
-    ensures { IfSome result (IsContentOf (view frame.now)) }
-{
-    match *frame {
-        Frame::DataFrame {
-            padded: 0,
-            octets,
-            ..
-        } => {
-            let n = octets.len();
-            unread.part(end - n, n).ok()
-        }
-        Frame::Settings { entries, .. } => {
-            let n = entries.len();
-            unread.part(end - n, n).ok()
-        }
-        _ => None,
     }
 }
 
@@ -142,6 +120,27 @@ impl Inlet {
         ensures lost { self.old.lost ≡ true → IsErr result × (self.new ≡ self.old) }
         ensures err { OnErr result ((self.new ≡ self.old) ⊎ (self.new.lost ≡ true)) }
     {
+        let mut taken = Taken::none();
+        let Ok(front) = self.next_into(max, &mut taken) else {
+            return Err(NoMemory);
+        };
+        match front {
+            Front::Need => Ok(Intake::Need),
+            Front::Fault(code) => Ok(Intake::Fault(code)),
+            Front::Taken => Ok(Intake::Taken(taken)),
+        }
+    }
+
+    /// As `next`, where a frame that is taken is put into `into`, so that it needn't be moved on from call to call. At `Need`, at a
+    /// fault and after running out of memory nothing is told of what is in `into`.
+    #[inline(always)]
+    pub fn next_into(&mut self, max: u32, into: &mut Taken) -> Result<Front, NoMemory>
+        ensures next { IfOk result (λ front. NextOf max self.old (intake_of front into.new) self.new) }
+        ensures short { IfOk result (λ front. IsShort max self.new (intake_of front into.new)) }
+        ensures inside { IfOk result (λ front. IsInside max self.old (intake_of front into.new) self.new) }
+        ensures lost { self.old.lost ≡ true → IsErr result × (self.new ≡ self.old) }
+        ensures err { OnErr result ((self.new ≡ self.old) ⊎ (self.new.lost ≡ true)) }
+    {
         if self.reader.is_lost() {
             return Err(NoMemory);
         }
@@ -150,18 +149,20 @@ impl Inlet {
             Ok(frames) => frames,
             Err(answer) => return Ok(answer),
         };
-        match read_frame(frames, max) {
-            ReadFrame::Need => Ok(Intake::Need),
-            ReadFrame::Bad(fault) => Ok(Intake::Fault(fault.code())),
-            ReadFrame::Whole(frame, used) => {
-                let read = unread.len() - frames.len() + used as usize;
-                let content = content_before(&self.unread, read, &frame);
-                let Ok(taken) = self.reader.take(&frame, content) else {
-                    return Err(NoMemory);
-                };
-                self.unread.take(read);
-                self.prefaced = true;
-                Ok(Intake::Taken(taken))
+        match read_head(frames, max) {
+            ReadHead::Need => Ok(Front::Need),
+            ReadHead::Bad(fault) => Ok(Front::Fault(fault.code())),
+            ReadHead::Whole(head, payload) => {
+                let read = unread.len() - frames.len() + HEAD_LEN + payload.len();
+                match take_payload(&self.unread, &mut self.reader, read, head, payload, into) {
+                    Err(error) => Err(error),
+                    Ok(Some(fault)) => Ok(Front::Fault(fault.code())),
+                    Ok(None) => {
+                        self.unread.take(read);
+                        self.prefaced = true;
+                        Ok(Front::Taken)
+                    }
+                }
             }
         }
     }

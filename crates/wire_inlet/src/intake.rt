@@ -1,4 +1,6 @@
 // What the octets of a connection give.
+ghost use Rattle.std.specs.Prelude.{◌≡◌, false};
+
 use h2_session::Act;
 use hpack_codec::FieldList;
 
@@ -22,6 +24,17 @@ pub enum Intake {
     Taken(Taken),
 }
 
+/// The same, where a frame that was taken is put elsewhere.
+#[derive(Clone, Copy)]
+pub enum Front {
+    /// No whole frame, and no fault yet.
+    Need,
+    /// No frame: the code of the connection error that it is (RFC 9113 section 7).
+    Fault(u32),
+    /// A frame, which was taken.
+    Taken,
+}
+
 /// A frame that was taken.
 #[derive(Drop)]
 pub struct Taken {
@@ -34,6 +47,20 @@ pub struct Taken {
     /// Whether it is a WINDOW_UPDATE. It concerns what goes to the peer on its stream, where each
     /// other frame concerns what comes from there, also where its act is a stream error.
     pub is_update: bool,
+}
+
+impl Taken {
+    /// What stands where a frame is to be put: one that means nothing. Takes no memory.
+    pub fn none() -> Self
+        ensures { result ≡ record { act = Act.Ignore; content = 0; reading = Reading.Nothing; is_update = false } }
+    {
+        Taken {
+            act: Act::Ignore,
+            content: 0,
+            reading: Reading::Nothing,
+            is_update: false,
+        }
+    }
 }
 
 /// What the header block of an act gives.

@@ -4,8 +4,9 @@
 mod inlet;
 mod intake;
 mod joined;
+mod payload;
 mod reader;
 mod unread;
 
 pub use inlet::Inlet;
-pub use intake::{Intake, Peer, Reading, Taken};
+pub use intake::{Front, Intake, Peer, Reading, Taken};

@@ -1,5 +1,5 @@
 // What the frames of a connection mean, and what their header blocks give.
-ghost use Rattle.std.specs.Prelude.{◌≡◌, ◌≤◌, ◌<◌, ◌^◌, ◌⊎◌, [], None, Some, false, true, IfOk, IfSome, MatchOption, OnErr};
+ghost use Rattle.std.specs.Prelude.{◌≡◌, ◌≤◌, ◌<◌, ◌^◌, ◌⊎◌, [], None, Some, false, true, IfOk, IfSome, MatchOption, OnErr, OnOk};
 ghost use Rattle.h2_frames.specs.Frame.{padding_of};
 ghost use Rattle.h2_frames.specs.Spelling.{IsWritable};
 ghost use Rattle.h2_frames.specs.View.{view};
@@ -39,6 +39,7 @@ impl Model for Reader {
 }
 
 // The header block that an act carries.
+#[inline(always)]
 fn block_of(act: &Act) -> Option<&[u8]>
     ensures { MatchOption result (block_of act.now ≡ None) (λ block. block_of act.now ≡ Some block.now) }
 {
@@ -51,13 +52,8 @@ fn block_of(act: &Act) -> Option<&[u8]>
     }
 }
 
-// Lets an act go. It is a call of its own, so that nothing of it stands where an act is handed on.
-#[inline(never)]
-fn drop_act(act: Act) {
-    drop(act);
-}
-
 // What a block gives. Each is decoded, once and in their order.
+#[inline(never)]
 fn read_block(decoder: &mut Decoder, block: &[u8]) -> Result<Reading, NoMemory>
     ensures reads { IfOk result (λ reading. ReadsBlock decoder.old block.now reading decoder.new) }
     ensures few { IfOk result IsKnown }
@@ -107,36 +103,39 @@ impl Reader {
         self.session.take_preface(octets)
     }
 
-    /// What a frame means. The octets of a DATA frame may be handed in as octets that share a block. After running out of memory
-    /// nothing changed, or the reader is lost.
-    pub fn take(&mut self, frame: &Frame, content: Option<Octets>) -> Result<Taken, NoMemory>
+    /// What a frame means is put into `into`. The octets of a DATA frame may be handed in as octets that share a block. After
+    /// running out of memory nothing changed but what is in `into`, or the reader is lost.
+    #[inline(always)]
+    pub fn take(
+        &mut self,
+        frame: &Frame,
+        content: Option<Octets>,
+        into: &mut Taken,
+    ) -> Result<(), NoMemory>
         requires writable { IsWritable (view frame.now) }
         requires padding { padding_of (view frame.now) ≤ 256 }
         requires content { IfSome content (IsContentOf (view frame.now)) }
         requires kept { self.old.lost ≡ false }
-        ensures means { IfOk result (λ taken. Means (view frame.now) self.old taken self.new) }
-        ensures numbered { IfOk result (λ taken. stream_of taken.act < 2 ^ 31) }
-        ensures few { IfOk result (λ taken. IsKnown taken.reading) }
+        ensures means { OnOk result (Means (view frame.now) self.old into.new self.new) }
+        ensures numbered { OnOk result (stream_of into.new.act < 2 ^ 31) }
+        ensures few { OnOk result (IsKnown into.new.reading) }
         ensures err { OnErr result ((self.new ≡ self.old) ⊎ (self.new.lost ≡ true)) }
     {
-        let counted = frame.content();
-        let is_update = matches!(*frame, Frame::WindowUpdate { .. });
         let Ok(act) = self.session.accept_with(frame, content) else {
             return Err(NoMemory);
         };
-        let Ok(reading) = self.read(&act) else {
-            drop_act(act);
+        into.act = act;
+        let Ok(reading) = self.read(&into.act) else {
             return Err(NoMemory);
         };
-        Ok(Taken {
-            act,
-            content: counted,
-            reading,
-            is_update,
-        })
+        into.reading = reading;
+        into.content = frame.content();
+        into.is_update = matches!(*frame, Frame::WindowUpdate { .. });
+        Ok(())
     }
 
     // What the header block of an act gives. After running out of memory the reader is lost.
+    #[inline(always)]
     fn read(&mut self, act: &Act) -> Result<Reading, NoMemory>
         ensures reads { IfOk result (λ reading. ReadsBlockOf (block_of act.now) self.old.table reading self.new.table) }
         ensures few { IfOk result IsKnown }

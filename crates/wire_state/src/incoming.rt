@@ -1,5 +1,6 @@
 // What comes in on a connection.
 ghost use Rattle.std.specs.Prelude.{◌≡◌, ◌≤◌, ◌<◌, IfOk};
+ghost use Rattle.wire_inlet.specs.Next.{intake_of};
 ghost use Rattle.wire_state.specs.Intakes.{PaysFor};
 ghost use Rattle.wire_state.specs.Progress.{conn_go};
 
@@ -8,7 +9,7 @@ use flow_gate::FlowId;
 use h2_windows::{MAX_WINDOW, Overflow};
 use io_ports::{NoMemory, Octets};
 use wire_flows::WireFlows;
-use wire_inlet::Intake;
+use wire_inlet::{Front, Taken};
 
 impl Conn {
     /// Octets came. The answer is false where the connection isn't open: then they are dropped.
@@ -23,15 +24,16 @@ impl Conn {
     }
 
     /// What stands at the front of the octets that aren't read, where frames have at most `max` octets of payload: nothing where
-    /// the connection is closed.
-    pub fn take_frame(&mut self, max: u32) -> Result<Intake, NoMemory>
+    /// the connection is closed. A frame that is taken is put into `into`.
+    #[inline(always)]
+    pub fn take_frame(&mut self, max: u32, into: &mut Taken) -> Result<Front, NoMemory>
         ensures rest { self.new ≡ record self.old { inlet = self.new.inlet } }
-        ensures go { IfOk result (λ intake. PaysFor intake (conn_go self.old) (conn_go self.new)) }
+        ensures go { IfOk result (λ front. PaysFor (intake_of front into.new) (conn_go self.old) (conn_go self.new)) }
     {
         if !self.open {
-            return Ok(Intake::Need);
+            return Ok(Front::Need);
         }
-        self.inlet.next(max)
+        self.inlet.next_into(max, into)
     }
 
     /// The last head on a stream was an interim one.

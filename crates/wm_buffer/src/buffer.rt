@@ -1,5 +1,5 @@
 // The buffer.
-ghost use Rattle.std.specs.Prelude.{◌≡◌, ◌==◌, ◌<◌, ◌≤◌, ◌+◌, ◌^◌, ◌++◌, length, take, true, IsOk, OnOk, OnErr, IfOk};
+ghost use Rattle.std.specs.Prelude.{◌≡◌, ◌==◌, ◌<◌, ◌≤◌, ◌+◌, ◌^◌, ◌++◌, length, take, true, IsOk, OnOk, OnErr, IfNone, IfOk, IfSome};
 ghost use Rattle.wm_buffer.specs.Watermark.{crossing};
 ghost use Rattle.wm_buffer.specs.Buffer.{empty_buffer, AppendsOctets, DropsOctets, KeepsOctets, IsWithinMarks};
 
@@ -116,8 +116,13 @@ impl WatermarkBuffer {
         ensures covered { length head.now + n ≤ to.old.spare → IsOk result }
         ensures err { OnErr result ((self.new ≡ self.old) × (to.new ≡ to.old)) }
     {
-        if head.is_empty() && n as usize == self.store.len() && self.may_swap(to) {
-            return Ok(self.swap_with(to));
+        if head.is_empty() && n as usize == self.store.len() {
+            if self.may_swap(to) {
+                return Ok(self.swap_with(to));
+            }
+            if let Some(shifted) = self.lend_to(to) {
+                return Ok(shifted);
+            }
         }
         to.store.reserve(head.len().saturating_add(n as usize))?;
         to.store.append(head);
@@ -154,6 +159,26 @@ impl WatermarkBuffer {
             from: drained,
             to: raised,
         }
+    }
+
+    // All octets go to another buffer as they lie, where they lie in a block of others, and it is empty and has room for them.
+    // None is copied. Where they don't, the answer is None, and nothing has changed.
+    fn lend_to(&mut self, to: &mut WatermarkBuffer) -> Option<Shifted>
+        ensures drops { IfSome result (λ shifted. DropsOctets self.old self.new (length self.old.octets)) }
+        ensures appends { IfSome result (λ shifted. AppendsOctets to.old to.new self.old.octets) }
+        ensures from { IfSome result (λ shifted. shifted.from ≡ crossing self.old.above self.new.above) }
+        ensures to { IfSome result (λ shifted. shifted.to ≡ crossing to.old.above to.new.above) }
+        ensures none { IfNone result ((self.new ≡ self.old) × (to.new ≡ to.old)) }
+    {
+        if !self.store.hand_over(&mut to.store) {
+            return None;
+        }
+        let raised = to.watermark.follow(to.store.len());
+        let drained = self.watermark.follow(self.store.len());
+        Some(Shifted {
+            from: drained,
+            to: raised,
+        })
     }
 
     /// A prefix of the octets, nonempty where they are. They stand in up to three parts, and this is the

@@ -1,5 +1,5 @@
 // Octets in a ring, behind some in a block of others, which move by slices.
-ghost use Rattle.std.specs.Prelude.{◌≡◌, ◌<◌, ◌≤◌, ◌+◌, ◌^◌, ◌++◌, [], length, take, drop, IsOk, OnOk, OnErr};
+ghost use Rattle.std.specs.Prelude.{◌≡◌, ◌<◌, ◌≤◌, ◌+◌, ◌^◌, ◌++◌, [], length, take, drop, IsOk, OnOk, OnErr, false, true};
 ghost use Rattle.wm_buffer.specs.Stored.{IsDoubled};
 
 use crate::lent::Lent;
@@ -71,6 +71,23 @@ impl Store {
     {
         mem::swap(&mut self.lent, &mut other.lent);
         mem::swap(&mut self.ring, &mut other.ring);
+    }
+
+    /// All octets go to another store as they lie, where they lie in a block of others, and the other one is empty and has room
+    /// for them: none is copied. The answer is false, and nothing has changed, where they don't.
+    pub fn hand_over(&mut self, to: &mut Store) -> bool
+        ensures empty { result ≡ true → to.old.octets ≡ [] }
+        ensures there { result ≡ true → to.new.octets ≡ self.old.octets }
+        ensures here { result ≡ true → self.new.octets ≡ [] }
+        ensures taken { result ≡ true → to.new.spare + length self.old.octets ≡ to.old.spare }
+        ensures freed { result ≡ true → self.new.spare ≡ self.old.spare + length self.old.octets }
+        ensures same { result ≡ false → (self.new ≡ self.old) × (to.new ≡ to.old) }
+    {
+        if self.ring.len() > 0 || to.len() > 0 || self.lent.len() > to.spare() {
+            return false;
+        }
+        mem::swap(&mut self.lent, &mut to.lent);
+        true
     }
 
     /// A prefix of the octets, nonempty where they are.

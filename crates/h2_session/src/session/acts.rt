@@ -41,6 +41,7 @@ impl Session {
 
     /// As `accept`, where the octets of a DATA frame and the entries of SETTINGS may be handed in as octets that share a block, so
     /// that none is copied.
+    #[inline(always)]
     pub fn accept_with(&mut self, frame: &Frame, content: Option<Octets>) -> Result<Act, NoMemory>
         requires writable { IsWritable (view frame.now) }
         requires padding { padding_of (view frame.now) ≤ 256 }
@@ -93,6 +94,7 @@ impl Session {
     }
 
     // As `take`, with the octets of a DATA frame or the entries of SETTINGS where they are handed in, and what these come to.
+    #[inline(always)]
     fn take_with(
         &mut self,
         frame: &Frame,
@@ -128,6 +130,7 @@ impl Session {
     }
 
     // What a frame that is no connection error means.
+    #[inline(always)]
     fn take(&mut self, frame: &Frame) -> Result<Act, NoMemory>
         requires writable { IsWritable (view frame.now) }
         requires padding { padding_of (view frame.now) ≤ 256 }
@@ -189,6 +192,7 @@ fn reset_act(state: Option<Stream>, stream: u32, code: u32) -> Act
 }
 
 // The empty DATA frames in a row after one more DATA frame, of which so many are counted.
+#[inline(always)]
 fn run_after(run: u32, most: u32, octets: &[u8], padded: u32, last: bool) -> u32
     ensures { result ≡ (if (length octets.now == 0) && (padded == 0) && not last then min (run + 1) most else 0) }
 {
@@ -200,6 +204,7 @@ fn run_after(run: u32, most: u32, octets: &[u8], padded: u32, last: bool) -> u32
 }
 
 // What DATA means on a stream that is open, in a state, or isn't.
+#[inline(always)]
 fn data_act(
     alloc: Global,
     state: Option<Stream>,
@@ -251,6 +256,7 @@ fn list_with(
 }
 
 // The octets that are handed in, or else a copy.
+#[inline(always)]
 fn content_or_copy(
     alloc: Global,
     octets: &[u8],
@@ -266,6 +272,7 @@ fn content_or_copy(
 }
 
 impl Session {
+    #[inline(always)]
     fn take_data(
         &mut self,
         stream: u32,
@@ -301,6 +308,7 @@ impl Session {
         act
     }
 
+    #[inline(always)]
     fn window_update(&self, stream: u32, n: u32) -> Act
         ensures { result ≡ (if stream == 0 then act.WindowUp 0 n else update_act stream n (stream_at stream self.now.streams)) }
     {

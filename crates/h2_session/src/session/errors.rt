@@ -12,12 +12,14 @@ use h2_frames::Frame;
 use h2_frames::codes::{ENHANCE_YOUR_CALM, FLOW_CONTROL_ERROR, PROTOCOL_ERROR};
 
 // SETTINGS that is no acknowledgement.
+#[inline(always)]
 fn is_settings(frame: &Frame) -> bool
     ensures { result ≡ is_settings (view frame.now) }
 {
     matches!(*frame, Frame::Settings { ack: false, .. })
 }
 
+#[inline(always)]
 fn is_push(frame: &Frame) -> bool
     ensures { result ≡ is_push (view frame.now) }
 {
@@ -25,6 +27,7 @@ fn is_push(frame: &Frame) -> bool
 }
 
 // A WINDOW_UPDATE of the connection by 0.
+#[inline(always)]
 fn is_zero_update(frame: &Frame) -> bool
     ensures { result ≡ is_zero_update (view frame.now) }
 {
@@ -35,6 +38,7 @@ fn is_zero_update(frame: &Frame) -> bool
 }
 
 // A DATA frame without octets and padding that doesn't end its stream.
+#[inline(always)]
 fn is_empty_data(frame: &Frame) -> bool
     ensures { result ≡ is_empty_data (view frame.now) }
 {
@@ -50,6 +54,7 @@ fn is_empty_data(frame: &Frame) -> bool
 }
 
 // A setting out of its range: the code of the first rule that is broken.
+#[inline(always)]
 fn settings_error(frame: &Frame, client_side: bool, outside: Outside) -> Option<u32>
     requires { outside ≡ outside_by client_side (view frame.now) }
     ensures { result ≡ settings_error client_side (view frame.now) }
@@ -76,6 +81,7 @@ fn code_of(outside: Outside) -> Option<u32>
 
 impl Session {
     // A stream that was never opened. A number that a client skipped isn't idle.
+    #[inline(always)]
     fn is_idle(&self, stream: u32) -> bool
         ensures { result ≡ is_idle_in self.now stream }
     {
@@ -89,6 +95,7 @@ impl Session {
 
     // DATA, HEADERS, RST_STREAM or WINDOW_UPDATE on an idle stream, but for HEADERS by which a
     // client may open it.
+    #[inline(always)]
     fn uses_idle(&self, frame: &Frame) -> bool
         ensures { result ≡ uses_idle_in self.now (view frame.now) }
     {
@@ -104,6 +111,7 @@ impl Session {
     }
 
     /// The code of the connection error that a frame is, if it is one or an earlier one was.
+    #[inline(always)]
     pub(super) fn error(&self, frame: &Frame, outside: Outside) -> Option<u32>
         requires { outside ≡ outside_by self.now.side.client_side (view frame.now) }
         ensures { result ≡ first_of self.now.failed (error_by self.now.side (view frame.now) (not self.now.started)
@@ -136,6 +144,7 @@ impl Session {
     }
 
     // The errors of the values in a frame.
+    #[inline(always)]
     fn late_error(&self, frame: &Frame, outside: Outside) -> Option<u32>
         requires { outside ≡ outside_by self.now.side.client_side (view frame.now) }
         ensures { result ≡ value_error self.now.side (view frame.now) self.now.empties }

@@ -93,6 +93,7 @@ impl Session {
         Ok(act)
     }
 
+    #[inline(always)]
     pub(super) fn take_headers(
         &mut self,
         stream: u32,
@@ -123,6 +124,8 @@ impl Session {
         Ok(act)
     }
 
+    #[cold]
+    #[inline(never)]
     pub(super) fn take_continuation(
         &mut self,
         stream: u32,

@@ -1,4 +1,4 @@
-use Rattle.std.proofs.Common.{◌++◌, ◌∷◌, [], inl, inr}
+use Rattle.std.proofs.Common.{◌++◌, ◌∷◌, [], inl, inr, sym}
 use Rattle.hpack_codec.specs.Sections.{field_of}
 use Rattle.hpack_codec.proofs.Blocks.{unindexed_reads, unindexed_breaks}
 use Rattle.hpack_codec.proofs.pieces.read_unindexed.Goals as goal
@@ -16,3 +16,6 @@ returns-in-Ok-push-clause-ok c = λ greatest most fields h.
       unindexed_reads c.args.never greatest c.args.table.now fields c.args.octets.now c.in-Ok.found.1.now l c.in-Ok.ensures.ok,
       c.in-Ok-push.ensures.ok most fields h,
     )
+
+pub push-requires : goal.push-requires
+push-requires c = c.told_name-told.ensures c.args.table.now (field_of c.in-Ok.found.0 c.args.never) (sym c.as_slice.ensures) c.in-Ok.ensures.index

@@ -5,5 +5,5 @@ pub returns-clause-octets : goal.returns-clause-octets
 returns-clause-octets c = record {
   goes = λ h g start t.
       let ended = c.in_ok-finish.ensures.octets.goes h g start _ (c.in_ok-ask_run.ensures.octets.goes h g start c.args.notes.now t) in
-      on_ok c.refresh.result (c.refresh.ensures.octets.goes h g start _ (c.in_ok-flow_ended.ensures.octets.goes h g start _ ended));
+      on_ok c.flow_ended.result (c.flow_ended.ensures.octets.goes h g start _ ended);
 }

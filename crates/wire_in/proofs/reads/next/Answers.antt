@@ -10,7 +10,7 @@ pub returns-clause-go : goal.returns-clause-go
 unfolding to_go
 returns-clause-go c =
     let k = conn_changed c.args.number c.args.core.now.conns.entries (c.get_mut.follows.lender c.take_frame.new.self).entries c.in-Some.conn.now c.take_frame.new.self c.in-Some.ensures.value (c.get_mut.follows.holds c.take_frame.new.self).0 in
-    pays_as c.take_frame.result (conn_go c.in-Some.conn.now) (conn_go c.take_frame.new.self) _ _ (omega (arith, k)) c.take_frame.ensures.go
+    pays_as c.take_frame.result c.take_frame.new.into (conn_go c.in-Some.conn.now) (conn_go c.take_frame.new.self) _ _ (omega (arith, k)) c.take_frame.ensures.go
 
 pub returns-clause-octets : goal.returns-clause-octets
 returns-clause-octets c =

@@ -1,6 +1,6 @@
 use Rattle.flow_gate.proofs.Live.{live-rises}
 use Rattle.flow_gate.proofs.Parts.{lent_first, lent_nobody}
-use Rattle.flow_gate.proofs.Places.{between-rest, first_high}
+use Rattle.flow_gate.proofs.Places.{between-none, between-rest, first_high}
 use Rattle.flow_gate.proofs.gate.Gate.tell.Goals as goal
 use Rattle.flow_gate.specs.Line.{Places, live}
 use Rattle.std.proofs.Common.{ap, arith, sym, ◌∙◌}
@@ -53,5 +53,17 @@ pub returns-in_err-place-clause-rest : goal.returns-in_err-place-clause-rest
 returns-in_err-place-clause-rest c =
     let none = lent_nobody c.self.inside.told c.self.inside.drained c.self.inside.line.items c.as_slice.result.now c.between.result.now
     c.as_slice.ensures.value c.between.ensures c.in_err-place.ensures in
+    let same = none ∙ sym (ap (λ (es : Places). drop 1 es) none) in
+    rw (← c.self.view_is) (λ i. record { above = c.self.inside.above; watchers = live c.self.inside.line.items; pending = same i })
+
+-- no place is left of those that are to be told
+pub returns-then-self-clause-first : goal.returns-then-self-clause-first
+returns-then-self-clause-first c =
+    let none = between-none c.self.inside.told c.self.inside.drained (live c.self.inside.line.items) (omega (arith, c.if-self.true)) in
+    rw (← c.self.view_is) (sym (ap (λ (es : Places). option_map (λ e. e.1) (slice_get es 0)) none))
+
+pub returns-then-self-clause-rest : goal.returns-then-self-clause-rest
+returns-then-self-clause-rest c =
+    let none = between-none c.self.inside.told c.self.inside.drained (live c.self.inside.line.items) (omega (arith, c.if-self.true)) in
     let same = none ∙ sym (ap (λ (es : Places). drop 1 es) none) in
     rw (← c.self.view_is) (λ i. record { above = c.self.inside.above; watchers = live c.self.inside.line.items; pending = same i })

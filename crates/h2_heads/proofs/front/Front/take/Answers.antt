@@ -1,24 +1,11 @@
-use Rattle.std.proofs.Common.{sym, ◌∙◌}
+use Rattle.std.proofs.Common.{arith, sym}
 use Rattle.std.specs.Option.{option_copied}
 use Rattle.h2_heads.proofs.front.Front.take.Goals as goal
 
-pub take_regular-requires-clause-regular : goal.take_regular-requires-clause-regular
-take_regular-requires-clause-regular c = rw c.requires at (sym c.is_pseudo.ensures ∙ c.if-not-is_pseudo.true)
+pub returns-in-Pseudo : goal.returns-in-Pseudo
+returns-in-Pseudo c = c.take_pseudo.ensures (option_copied c.args.length)
 
-pub returns-then-not-is_pseudo : goal.returns-then-not-is_pseudo
-returns-then-not-is_pseudo c = c.take_regular.ensures c.args.message
-
-pub take_pseudo-requires-clause-name : goal.take_pseudo-requires-clause-name
-take_pseudo-requires-clause-name c = rw c.requires at (sym c.pseudo_of.ensures ∙ c.in-Some.is)
-
-pub returns-in-Some : goal.returns-in-Some
-returns-in-Some c = c.take_pseudo.ensures (option_copied c.args.length)
-
-pub fault_of_unknown-requires-clause-pseudo : goal.fault_of_unknown-requires-clause-pseudo
-fault_of_unknown-requires-clause-pseudo c = rw c.requires at (sym c.is_pseudo.ensures ∙ c.if-not-is_pseudo.false)
-
-pub fault_of_unknown-requires-clause-unknown : goal.fault_of_unknown-requires-clause-unknown
-fault_of_unknown-requires-clause-unknown c = rw c.requires at (sym c.pseudo_of.ensures ∙ c.in_default.is)
-
-pub returns : goal.returns
-returns c = (c.fault_of_unknown.ensures c.args.message (option_copied c.args.length), tt)
+pub returns-in-Plain : goal.returns-in-Plain
+returns-in-Plain c =
+    c.take_plain.ensures c.args.message c.args.place (option_copied c.args.length) c.args.field.now (c.in-Plain.ensures c.args.field.now c.requires.told)
+    (c.is_bad_told-bad_value.ensures c.args.field.now c.requires.told c.as_slice-value.ensures)

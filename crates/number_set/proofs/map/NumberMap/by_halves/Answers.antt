@@ -1,10 +1,7 @@
 use Rattle.number_set.proofs.Entries.{is_gap}
-use Rattle.number_set.proofs.map.NumberMap.search.Goals as goal
+use Rattle.number_set.proofs.map.NumberMap.by_halves.Goals as goal
 use Rattle.number_set.specs.NumberMap.{IsGap}
 use Rattle.std.proofs.Common.{arith, subst}
-
-pub returns-then-is_first : goal.returns-then-is_first
-returns-then-is_first g c = c.is_first.ensures c.if-is_first.true
 
 pub returns-else-item-number : goal.returns-else-item-number
 returns-else-item-number g c =
