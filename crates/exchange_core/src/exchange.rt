@@ -41,6 +41,7 @@ pub(crate) struct Exchange {
 
 impl Exchange {
     /// An exchange with empty flows through the filters of its route row.
+    #[inline(always)]
     pub(crate) fn new(
         alloc: Global,
         spares: &mut Spares,
@@ -221,6 +222,7 @@ impl Exchange {
     }
 
     /// Whether some Meter of a flow holds octets.
+    #[inline(always)]
     pub(crate) fn is_metered(&self) -> bool
         ensures { result ≡ is_metered self.now }
     {

@@ -86,6 +86,7 @@ impl Exchanges {
     ///
     /// Here each receive buffer gets the room for its window, and each buffer with a limit that for its limit and, but
     /// for a Hold, for one move more; and the exchange gets its place on the deferred list.
+    #[inline(always)]
     pub fn start(&mut self, spec: &StartSpec, config: &Config) -> Result<u64, NoMemory>
         requires recv { spec.now.recv ≤ most_octets }
         requires send { spec.now.send ≤ most_octets }
@@ -112,6 +113,7 @@ impl Exchanges {
 
     /// The head of a flow whose end hasn't come, and with it the flow's end where `last` holds: then nothing of a body came
     /// before it. It waits to be framed. It takes no memory, and is never refused.
+    #[inline(always)]
     pub fn head(&mut self, flow: FlowId, fields: FieldList, last: bool) -> Result<(), NoMemory>
         requires live { IsLiveFlow self.old flow }
         requires goes_on { IfSome (flow_at self.old flow) (λ f. f.message.ended ≡ false) }
@@ -152,6 +154,7 @@ impl Exchanges {
     /// Octets came for a flow, whose end hasn't come where it is live. Where it is, and they fit into its receive buffer
     /// within its window, they are there, as by `arrive`; else nothing has changed. The exchange is looked up once. Takes no
     /// memory.
+    #[inline(always)]
     pub fn receive(&mut self, flow: FlowId, octets: &Octets) -> Received
         requires goes_on { IfSome (flow_at self.old flow) (λ f. f.message.ended ≡ false) }
         ensures answer { result ≡ received_by (length octets.now) (flow_at self.old flow) }
@@ -169,6 +172,7 @@ impl Exchanges {
     }
 
     /// The end of a flow came, with trailers or none. They wait to be framed. It takes no memory, and is never refused.
+    #[inline(always)]
     pub fn finish(&mut self, flow: FlowId, trailers: Option<FieldList>) -> Result<(), NoMemory>
         requires live { IsLiveFlow self.old flow }
         requires goes_on { IfSome (flow_at self.old flow) (λ f. f.message.ended ≡ false) }
@@ -203,6 +207,7 @@ impl Exchanges {
     ///
     /// Of a reset by a peer, a fault of a stream and a body that is too large, `back` says that the cluster or the
     /// response gave the cause.
+    #[inline(always)]
     pub fn doom(&mut self, exchange: u64, cause: Cause, back: bool, gates: &mut Gates) -> Doomed
         requires live { is_live self.old exchange ≡ true }
         requires known { IfSome (exchange_at self.old exchange) (λ x. KnowsFlows exchange x gates.old) }

@@ -43,6 +43,7 @@ impl Spares {
     }
 
     /// A flow as `Flow::new` makes it, with the room of an earlier one where that fits.
+    #[inline(always)]
     pub(crate) fn begun(
         &mut self,
         id: FlowId,
@@ -88,6 +89,7 @@ impl Spares {
     }
 
     // A flow without stages in the room of the last one that was kept, if there is one and it fits.
+    #[inline(always)]
     fn renewed(
         &mut self,
         id: FlowId,
@@ -123,6 +125,7 @@ impl Spares {
         }
     }
 
+    #[inline(always)]
     fn keep_flow(&mut self, flow: FlowBox) {
         let has_room = self.flows.len() < self.flows.capacity() && self.flows.len() < MOST;
         if has_room && flow.flow().held() == 0 {

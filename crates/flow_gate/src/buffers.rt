@@ -56,6 +56,7 @@ impl Buffers {
     }
 
     /// The gate of a buffer, if it is known.
+    #[inline(always)]
     pub(crate) fn get(&self, buffer: BufferId) -> Option<&Gate>
         ensures value { option_copied result ≡ buffer_at self.now buffer }
     {
@@ -191,6 +192,7 @@ impl Buffers {
 }
 
 // The gate of a flow goes where nobody watches, and its memory is kept.
+#[inline(always)]
 fn close_unwatched(gates: &mut FlowMap<Gate>, spares: &mut Spares, flow: FlowId)
     ensures { (f : FlowId) → flow_at gates.new f ≡ (if same_flow flow f then kept (flow_at gates.old f) else flow_at gates.old f) }
 {

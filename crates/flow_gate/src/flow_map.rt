@@ -76,6 +76,7 @@ impl<V> FlowMap<V> {
     }
 
     /// From now on the flow has this value. After running out of memory nothing has changed.
+    #[inline(always)]
     pub(crate) fn put(&mut self, flow: FlowId, value: V) -> Result<(), NoMemory>
     where
         V: Drop,

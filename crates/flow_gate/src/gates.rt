@@ -290,6 +290,7 @@ impl Gates {
 
     /// Ends a flow: its watches and its pending lows go with it, and so do its own receive, stage and send buffers
     /// that nobody else watches.
+    #[inline(always)]
     pub fn forget(&mut self, flow: FlowId)
         requires { is_open self.old flow ≡ true }
         ensures forgets { Forgets flow self.old self.new }

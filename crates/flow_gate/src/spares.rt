@@ -53,6 +53,7 @@ impl Spares {
     }
 
     /// Keeps the memory of a gate that goes, where there is room for it; the gate is left without. Takes no memory.
+    #[inline(always)]
     pub(crate) fn keep_memory(&mut self, gate: &mut Gate) {
         if self.gates.len() < self.gates.capacity() {
             let _ = self.gates.push(mem::replace(gate, Gate::new(self.alloc)));

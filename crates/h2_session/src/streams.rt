@@ -65,6 +65,7 @@ impl Streams {
     }
 
     /// What is known of a stream, if it is open.
+    #[inline(always)]
     pub fn get(&self, stream: u32) -> Option<Stream>
         ensures { result ≡ stream_at stream self.now }
     {
@@ -72,6 +73,7 @@ impl Streams {
     }
 
     /// Opens a stream. After running out of memory nothing is changed.
+    #[inline(always)]
     pub fn open(&mut self, stream: u32, state: Stream) -> Result<(), NoMemory>
         ensures ok { OnOk result (Puts stream (Some state) self.old self.new) }
         ensures err { OnErr result (self.new ≡ self.old) }
@@ -80,6 +82,7 @@ impl Streams {
     }
 
     // Moves an open stream. It is closed once both sides have ended it.
+    #[inline(always)]
     fn set(&mut self, stream: u32, state: Stream)
         requires { IsSome (stream_at stream self.old) }
         ensures { Puts stream (unless_ended state) self.old self.new }

@@ -213,6 +213,7 @@ impl<K: Key, V> PagedMap<K, V> {
 
     /// Takes out the value of the key, as `remove`, if there is one, and drops it where it lies: it isn't moved out, and no
     /// answer tells of it. Takes no memory.
+    #[inline(always)]
     pub fn discard(&mut self, key: &K)
     where
         V: Drop,

@@ -23,6 +23,8 @@ use wire_outlet::{Control, Waiting};
 use wire_state::{Conn, Task, WireCore, note, note_answer, note_pauses};
 
 /// The task Close: the connection is closed, unless it is. That it was lost is no cause of such a task: see `lose`.
+#[cold]
+#[inline(never)]
 pub fn close_task(
     core: &mut WireCore,
     conn: u32,
@@ -45,6 +47,8 @@ pub fn close_task(
 }
 
 /// Closes a connection, unless it is closed, for another cause than that it was lost; its exchanges are lost next.
+#[cold]
+#[inline(never)]
 pub fn close(
     core: &mut WireCore,
     number: u32,
@@ -164,6 +168,8 @@ fn shut(core: &mut WireCore, number: u32, cause: CloseCause)
 
 /// A connection is lost: it is closed, unless it is, and its octets go nowhere, also where it was closed before. Where they held
 /// flows back, these are to be told once nothing else is under way: by then their exchanges are lost too.
+#[cold]
+#[inline(never)]
 pub fn lose(core: &mut WireCore, number: u32, notes: &mut Notes) -> Result<(), NoMemory>
     requires sound { IsSound core.old }
     ensures sound { OnOk result (IsSound core.new) }
@@ -235,6 +241,8 @@ fn lose_rest(core: &mut WireCore, number: u32)
 }
 
 /// The task Losses: the next exchange of the connection that is lost.
+#[cold]
+#[inline(never)]
 pub fn losses(
     core: &mut WireCore,
     conn: u32,
@@ -293,6 +301,8 @@ fn is_left_out(core: &WireCore, exchange: u64, last: u32) -> bool {
 }
 
 /// A client connection takes no later streams: it gets one GOAWAY, and is closed once nothing is left to do.
+#[cold]
+#[inline(never)]
 pub fn begin_draining(core: &mut WireCore, conn: u32) -> Result<(), NoMemory>
     requires sound { IsSound core.old }
     ensures sound { OnOk result (IsSound core.new) }
@@ -306,6 +316,8 @@ pub fn begin_draining(core: &mut WireCore, conn: u32) -> Result<(), NoMemory>
 }
 
 /// As `begin_draining`; the answer is false where the list was full.
+#[cold]
+#[inline(never)]
 pub(crate) fn start_draining(core: &mut WireCore, number: u32) -> Result<bool, NoMemory>
     requires sound { IsSound core.old }
     ensures sound { OnOk result (IsSound core.new) }

@@ -78,6 +78,7 @@ pub fn end(core: &mut WireCore, exchange: u64, notes: &mut Notes) -> Result<(), 
 }
 
 /// An end of the exchange was framed, and nothing comes before it is looked at: as the task End.
+#[inline(always)]
 pub fn end_framed(core: &mut WireCore, exchange: u64, notes: &mut Notes) -> Result<(), NoMemory>
     requires sound { IsSound core.old }
     ensures sound { OnOk result (IsSound core.new) }
@@ -217,6 +218,7 @@ fn idle(core: &mut WireCore, client: u32) -> Result<(), NoMemory>
 }
 
 // The exchange leaves a connection, if there is one. The answer is whether its stream there was open.
+#[inline(always)]
 fn leave(
     core: &mut WireCore,
     conn: Option<u32>,
@@ -236,6 +238,7 @@ fn leave(
     }
 }
 
+#[inline(always)]
 fn leave_at(
     core: &mut WireCore,
     number: u32,
@@ -257,6 +260,7 @@ fn leave_at(
 
 // What the peers are told of a doom, and the GOAWAY that a connection gets which isn't kept alive; then the connections whose
 // list was full are to be closed.
+#[inline(always)]
 fn tell(core: &mut WireCore, ends: Ends, doomed: Doomed, hear: Hear) -> Result<(), NoMemory>
     requires sound { IsSound core.old }
     ensures sound { OnOk result (IsSound core.new) }
@@ -311,6 +315,7 @@ fn stop_keepalive(core: &mut WireCore, client: u32, fits: bool) -> Result<bool, 
 }
 
 // A connection, if there is one, is to be closed, unless what was put fitted into its list.
+#[inline(always)]
 fn flood_unless(core: &mut WireCore, conn: Option<u32>, fits: bool) -> Result<(), NoMemory>
     requires sound { IsSound core.old }
     ensures sound { OnOk result (IsSound core.new) }

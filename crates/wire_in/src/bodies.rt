@@ -49,6 +49,7 @@ impl Content {
 }
 
 /// Content of an open stream.
+#[inline(always)]
 pub(crate) fn body(
     core: &mut WireCore,
     number: u32,
@@ -89,6 +90,7 @@ pub(crate) fn body(
 
 // What goes next of a flow is looked up where its end came without octets: those that come enter the receive buffer, from which
 // nothing is framed, and what goes next is looked up once they move.
+#[inline(always)]
 fn refresh_where(core: &mut WireCore, is_empty: bool, course: Course) -> Result<(), NoMemory>
     requires sound { IsSound core.old }
     ensures sound { OnOk result (IsSound core.new) }
@@ -156,6 +158,7 @@ fn fits(core: &mut WireCore, course: Course, n: usize, last: bool) -> bool
 }
 
 // The octets enter the receive buffer, and the padding is owed.
+#[inline(always)]
 fn enter(
     core: &mut WireCore,
     number: u32,
@@ -178,6 +181,7 @@ fn enter(
 }
 
 // The octets enter the receive buffer.
+#[inline(always)]
 fn arrive(
     core: &mut WireCore,
     course: Course,

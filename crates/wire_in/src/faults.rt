@@ -14,6 +14,8 @@ use wire_inlet::Reading;
 use wire_state::{Course, Task, WireCore, note};
 
 /// A connection error (RFC 9113 section 5.4.1).
+#[cold]
+#[inline(never)]
 pub(crate) fn close_with(
     core: &mut WireCore,
     number: u32,
@@ -73,6 +75,8 @@ pub(crate) fn stream_fault(stream: u32, code: u32, content: u32, concerns: Conce
 
 impl StreamFault {
     /// A frame that is a stream error: its content counts at the connection, and its block is read.
+    #[cold]
+    #[inline(never)]
     pub(crate) fn take(
         self,
         core: &mut WireCore,
@@ -118,6 +122,8 @@ impl StreamFault {
 
     /// The exchange of the stream is doomed, or the stream is reset where it has none; then the content that was counted is
     /// owed to the connection.
+    #[cold]
+    #[inline(never)]
     pub(crate) fn end(
         self,
         core: &mut WireCore,
@@ -207,6 +213,8 @@ pub fn waste(
 }
 
 /// Octets that were counted and entered no buffer are owed to the connection, while it is open.
+#[cold]
+#[inline(never)]
 pub(crate) fn owe(
     core: &mut WireCore,
     number: u32,

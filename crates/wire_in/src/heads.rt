@@ -123,6 +123,7 @@ fn interim(core: &mut WireCore, number: u32, stream: u32)
 }
 
 /// The message of a flow begins with its head, which waits to be framed.
+#[inline(always)]
 pub(crate) fn begin(
     core: &mut WireCore,
     course: Course,
@@ -142,6 +143,7 @@ pub(crate) fn begin(
 }
 
 // The head, where there is one, waits to be framed.
+#[inline(always)]
 fn put_head(
     core: &mut WireCore,
     flow: FlowId,
@@ -162,6 +164,7 @@ fn put_head(
 }
 
 /// The message of the flow ended, where `last` holds.
+#[inline(always)]
 pub(crate) fn end_where(
     core: &mut WireCore,
     last: bool,
@@ -180,6 +183,7 @@ pub(crate) fn end_where(
 }
 
 /// The body of the flow ended, with trailers or without. Nothing where it had ended, or isn't live.
+#[inline(always)]
 pub(crate) fn finish(
     core: &mut WireCore,
     flow: FlowId,
@@ -197,6 +201,7 @@ pub(crate) fn finish(
 }
 
 /// The body of the flow ended without trailers, where `last` holds.
+#[inline(always)]
 pub(crate) fn finish_where(core: &mut WireCore, flow: FlowId, last: bool) -> Result<(), NoMemory>
     requires sound { IsSound core.old }
     ensures sound { OnOk result (IsSound core.new) }

@@ -59,6 +59,7 @@ pub(crate) fn request(
 }
 
 // A request goes on, whose flow began just now.
+#[inline(always)]
 fn go(
     core: &mut WireCore,
     course: Course,
@@ -261,6 +262,7 @@ fn spec_of(
 }
 
 // The pauses of flows that a write buffer holds back from the start.
+#[inline(always)]
 fn note_held(
     started: Started,
     number: u32,
@@ -281,6 +283,7 @@ fn note_held(
 }
 
 // The pause of a flow, where the write buffer of the connection that it goes to holds it back.
+#[inline(always)]
 fn note_hold(flow: FlowId, held: bool, to: Option<u32>, notes: &mut Notes) -> Result<(), NoMemory>
     ensures notes { Appends notes.old notes.new }
     ensures paid { Pays result (hold_of flow held to) notes.old notes.new }

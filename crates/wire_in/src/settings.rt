@@ -15,6 +15,8 @@ use wire_outlet::Control;
 use wire_state::{Conn, WireCore};
 
 /// The peer's settings.
+#[cold]
+#[inline(never)]
 pub(crate) fn settings(
     core: &mut WireCore,
     number: u32,

@@ -77,6 +77,7 @@ impl Unread {
 
     /// So many octets from a place on. Of octets in the block in which they came they share it, where they are many.
     #[tactic(auto, using(crate::proofs::Joining::part_behind))]
+    #[inline(always)]
     pub fn part(&self, from: usize, n: usize) -> Result<Octets, NoMemory>
         requires { from + n ≤ length self.now }
         ensures { IfOk result (λ part. part ≡ take n (drop from self.now)) }
@@ -112,6 +113,7 @@ impl Unread {
     }
 
     /// The first n octets were read.
+    #[inline(always)]
     pub fn take(&mut self, n: usize)
         requires { n ≤ length self.old }
         ensures { self.new ≡ drop n self.old }
@@ -123,6 +125,7 @@ impl Unread {
     }
 
     // The octets are these, where they came.
+    #[inline(always)]
     fn put(&mut self, came: Octets)
         ensures { self.new ≡ came }
     {
@@ -132,6 +135,7 @@ impl Unread {
 
     // Once no octets are left but some of those that came last, they are where these came, and once none is left no block is kept.
     #[tactic(auto, using(crate::proofs::Joining::left_of_last))]
+    #[inline(always)]
     fn settle(&mut self)
         ensures { self.new ≡ self.old }
     {

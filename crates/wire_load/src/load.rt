@@ -117,6 +117,7 @@ impl Load {
     }
 
     /// This dispatch touches the exchange. One that it has touched before stays where it is.
+    #[inline(always)]
     pub fn touch(&mut self, exchange: u64) -> Result<(), NoMemory>
         ensures ok { OnOk result (self.new ≡ with_touched exchange self.old) }
         ensures err { OnErr result (self.new ≡ self.old) }

@@ -15,6 +15,7 @@ use wire_flows::WireFlows;
 use wire_state::{Conn, NextUnit, Stirred, Task, WireCore, note_pauses};
 
 /// The task AskDrain: the connection is drained, unless it is being drained. Its first unit is framed at once.
+#[inline(always)]
 pub fn ask_drain(core: &mut WireCore, number: u32, notes: &mut Notes) -> Result<(), NoMemory>
     requires sound { IsSound core.old }
     requires top { top_go core.old.agenda ≡ 2 }
@@ -28,6 +29,7 @@ pub fn ask_drain(core: &mut WireCore, number: u32, notes: &mut Notes) -> Result<
 }
 
 /// A connection is drained from now on, unless it is being drained. Its first unit is framed at once.
+#[inline(always)]
 pub(crate) fn drain_now(core: &mut WireCore, number: u32, notes: &mut Notes) -> Result<(), NoMemory>
     requires sound { IsSound core.old }
     ensures sound { OnOk result (IsSound core.new) }
@@ -100,6 +102,7 @@ pub fn begin_drain(
 }
 
 // A drain, of which a unit was framed, goes on at once, unless that began what goes before the next unit.
+#[inline(always)]
 pub(crate) fn drain_on(core: &mut WireCore, number: u32, notes: &mut Notes) -> Result<(), NoMemory>
     requires sound { IsSound core.old }
     ensures sound { OnOk result (IsSound core.new) }
@@ -115,6 +118,7 @@ pub(crate) fn drain_on(core: &mut WireCore, number: u32, notes: &mut Notes) -> R
 
 /// The task Drain: units of the connection are framed, unless its write buffer is above or it is closed, until one begins what
 /// goes before the next.
+#[inline(always)]
 pub fn drain(core: &mut WireCore, number: u32, notes: &mut Notes) -> Result<(), NoMemory>
     requires sound { IsSound core.old }
     requires top { top_go core.old.agenda ≡ 1 }
@@ -128,6 +132,7 @@ pub fn drain(core: &mut WireCore, number: u32, notes: &mut Notes) -> Result<(), 
 }
 
 // The next unit of the connection is framed. The answer is whether the next one goes on at once.
+#[inline(always)]
 fn drain_one(core: &mut WireCore, number: u32, notes: &mut Notes) -> Result<bool, NoMemory>
     requires sound { IsSound core.old }
     requires top { top_go core.old.agenda ≡ 1 }
@@ -216,6 +221,7 @@ fn look(conn: &mut Conn, flows: &WireFlows, stirred: &mut Stirred, number: u32) 
 }
 
 /// What may be framed at a connection now.
+#[inline(always)]
 pub(crate) fn next_unit(core: &mut WireCore, number: u32) -> Option<NextUnit>
     requires sound { IsSound core.old }
     ensures sound { IsSound core.new }
@@ -229,6 +235,7 @@ pub(crate) fn next_unit(core: &mut WireCore, number: u32) -> Option<NextUnit>
     }
 }
 
+#[inline(always)]
 fn unit_at(conn: &mut Conn, flows: &WireFlows) -> Option<NextUnit>
     ensures rest { conn.new ≡ record conn.old { credits = conn.new.credits } }
     ensures go { conn_go conn.new ≡ conn_go conn.old }
@@ -241,6 +248,7 @@ fn unit_at(conn: &mut Conn, flows: &WireFlows) -> Option<NextUnit>
 }
 
 /// A unit was framed at a connection. Where the write buffer rose by it, its flows are held back, each with its note.
+#[inline(always)]
 pub(crate) fn unit_framed(
     core: &mut WireCore,
     conn: u32,

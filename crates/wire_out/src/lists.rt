@@ -74,6 +74,7 @@ fn frame_first(
 }
 
 // A request gets its stream at the connection to its cluster.
+#[inline(always)]
 fn open_stream(core: &mut WireCore, going: Going) -> Result<Option<u32>, NoMemory>
     requires sound { IsSound core.old }
     requires live { is_live_in core.old.flows going.course.flow.exchange ≡ true }
@@ -175,6 +176,7 @@ fn frame_fields(
 }
 
 // The frames of the list go into the write buffer. None where no list waits, or it can't be framed.
+#[inline(always)]
 fn write_list(
     core: &mut WireCore,
     going: Going,

@@ -86,6 +86,7 @@ fn move_on(
 
 // A flow without octets has nothing to move, and a drain brings it none: it isn't looked at once more. Its connections are
 // drained, the one that it goes to first and at once.
+#[inline(always)]
 pub(crate) fn drain_both(
     core: &mut WireCore,
     course: Course,

@@ -206,6 +206,7 @@ fn frame_body(core: &mut WireCore, going: Going, notes: &mut Notes) -> Result<()
 }
 
 // A DATA frame of a flow went into the write buffer: it is noted, with what it begins.
+#[inline(always)]
 pub(crate) fn body_framed(
     core: &mut WireCore,
     going: Going,
@@ -236,6 +237,7 @@ pub(crate) fn body_framed(
 
 // What a DATA frame begins. Where the send buffer of its flow has drained, the flow runs before it is looked at whether its
 // exchange is done.
+#[inline(always)]
 fn end_or_resume(
     core: &mut WireCore,
     course: Course,
@@ -258,6 +260,7 @@ fn end_or_resume(
 
 // The octets of a DATA frame go from the send buffer into the write buffer, under both windows. None where there is no such
 // frame.
+#[inline(always)]
 pub(crate) fn write_body(core: &mut WireCore, going: Going) -> Result<Option<Framed>, NoMemory>
     requires sound { IsSound core.old }
     requires there { IsThere core.old.flows going.course.flow }
@@ -273,6 +276,7 @@ pub(crate) fn write_body(core: &mut WireCore, going: Going) -> Result<Option<Fra
     }
 }
 
+#[inline(always)]
 fn write_body_on(
     core: &mut WireCore,
     number: u32,

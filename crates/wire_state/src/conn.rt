@@ -143,6 +143,7 @@ impl Conn {
     }
 
     /// The stream of an exchange opens: both sides get its window.
+    #[inline(always)]
     pub fn begin(&mut self, exchange: u64) -> Result<(), NoMemory>
         ensures rest { self.new ≡ record self.old { windows = self.new.windows } }
         ensures go { conn_go self.new ≤ conn_go self.old }
@@ -190,6 +191,7 @@ impl Conn {
 
     /// n octets left the receive buffer of the exchange, or were padding: they are owed to its stream and to the connection. At
     /// most those that the stream holds are.
+    #[inline(always)]
     pub fn moved(&mut self, exchange: u64, n: u32) -> Result<(), NoMemory>
         ensures rest { self.new ≡ record self.old { windows = self.new.windows; credits = self.new.credits } }
         ensures go { conn_go self.new ≤ conn_go self.old }
@@ -200,6 +202,7 @@ impl Conn {
     }
 
     /// Nothing may hold back the flow of the exchange from here: where its stream is due a WINDOW_UPDATE, that may be framed.
+    #[inline(always)]
     pub fn look_due(&mut self, exchange: u64) -> Result<(), NoMemory>
         ensures rest { self.new ≡ record self.old { credits = self.new.credits } }
         ensures go { conn_go self.new ≡ conn_go self.old }
@@ -238,6 +241,7 @@ impl Conn {
     }
 
     /// The peer's side of a stream ended.
+    #[inline(always)]
     pub fn peer_ended(&mut self, exchange: u64, stream: u32)
         ensures rest { self.new ≡ record self.old { windows = self.new.windows; credits = self.new.credits } }
         ensures go { conn_go self.new ≤ conn_go self.old }
@@ -277,6 +281,7 @@ impl Conn {
 
     /// A unit of a flow of the exchange was framed, which ended its stream here where `last` holds; `next` goes next of it, where
     /// its stream's window has so much left.
+    #[inline(always)]
     pub fn framed(
         &mut self,
         exchange: u64,
@@ -295,6 +300,7 @@ impl Conn {
     }
 
     // This side of a stream ended, where `last` holds.
+    #[inline(always)]
     fn ended_where(&mut self, last: bool, exchange: u64, stream: u32)
         ensures rest { self.new ≡ record self.old { inlet = self.new.inlet; windows = self.new.windows } }
         ensures room { self.new.windows.send.conn ≡ self.old.windows.send.conn }
@@ -308,6 +314,7 @@ impl Conn {
     }
 
     /// One side of a stream ended: once both have, it has no send window any more.
+    #[inline(always)]
     pub fn stream_ended(&mut self, exchange: u64, stream: u32)
         ensures rest { self.new ≡ record self.old { windows = self.new.windows } }
         ensures recv { self.new.windows.recv ≡ self.old.windows.recv }

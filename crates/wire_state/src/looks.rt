@@ -83,6 +83,7 @@ impl WireCore {
 }
 
 // Whether something may be framed at this connection. Where nothing may it is calm, unless it is draining: then it may be closed.
+#[inline(always)]
 fn has_unit(conn: &mut Conn, flows: &WireFlows, stirred: &mut Stirred, number: u32) -> bool
     ensures rest { conn.new ≡ record conn.old { credits = conn.new.credits } }
     ensures go { conn_go conn.new ≡ conn_go conn.old }

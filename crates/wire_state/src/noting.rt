@@ -53,6 +53,7 @@ pub fn note_answer(notes: &mut Notes, conn: u32, octets: Octets) -> Result<(), N
 }
 
 /// Writes that a field block went out on a stream of a connection. Without octets there is nothing to say.
+#[inline(always)]
 pub fn note_head(notes: &mut Notes, conn: u32, stream: u32, octets: Octets) -> Result<(), NoMemory>
     ensures notes { Appends notes.old notes.new }
     ensures told { OnOk result (notes.new ≡ notes.old ++ heads_of conn stream octets) }

@@ -212,6 +212,7 @@ impl WireCore {
     }
 
     /// The flow is to be run.
+    #[inline(always)]
     pub fn ask_run(&mut self, course: Course) -> Result<(), NoMemory>
         requires sound { IsSound self.old }
         ensures sound { OnOk result (IsSound self.new) }
@@ -224,6 +225,7 @@ impl WireCore {
     }
 
     /// This dispatch touches the exchange: it goes on, or holds more or fewer octets.
+    #[inline(always)]
     pub fn touch(&mut self, exchange: u64) -> Result<(), NoMemory>
         requires sound { IsSound self.old }
         ensures sound { OnOk result (IsSound self.new) }
@@ -267,6 +269,7 @@ impl WireCore {
     }
 
     /// The flow that comes from a stream of a connection.
+    #[inline(always)]
     pub fn flow_from(&self, conn: u32, stream: u32) -> Option<Course>
         ensures { result ≡ course_at (comes_from conn) conn stream self.entry.now.links }
     {
@@ -285,6 +288,7 @@ impl WireCore {
     }
 
     /// The message of the flow ended: no more is owed to its stream, and a request's response is awaited from now on.
+    #[inline(always)]
     pub fn flow_ended(&mut self, course: Course, stream: u32) -> Result<(), NoMemory>
         requires sound { IsSound self.old }
         ensures sound { OnOk result (IsSound self.new) }
@@ -301,6 +305,7 @@ impl WireCore {
     }
 
     // The peer's side of a stream of a connection, if there is one, ended.
+    #[inline(always)]
     fn peer_ended(&mut self, from: Option<u32>, exchange: u64, stream: u32)
         requires sound { IsSound self.old }
         ensures sound { IsSound self.new }

@@ -102,6 +102,7 @@ impl Exchanges {
     }
 
     /// Whether a flow holds octets in some place. False where the flow isn't live.
+    #[inline(always)]
     pub fn holds(&self, flow: FlowId) -> bool
         ensures { result ≡ option_map_or (λ f. nat_lt 0 (held_by f)) (flow_at self.now flow) false }
     {

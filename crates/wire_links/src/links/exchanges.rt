@@ -19,6 +19,7 @@ pub struct Ends {
 
 impl Links {
     /// The exchange on a stream of the connection, while it is live.
+    #[inline(always)]
     pub fn exchange_at(&self, conn: u32, stream: u32) -> Option<u64>
         ensures exchange { result ≡ exchange_at conn stream self.now }
         ensures found { IfSome result (λ x. IsOn conn stream x self.now) }

@@ -104,6 +104,7 @@ pub(super) fn disconnect(
 }
 
 /// An exchange of a connection goes, and its stream with it, if it has one.
+#[inline(always)]
 pub(super) fn leave(seats: &mut Seats, conn: u32, exchange: u64, stream: Option<u32>)
     ensures { seats.new.entries ≡ changed conn (left exchange stream) seats.old.entries }
 {
@@ -113,6 +114,7 @@ pub(super) fn leave(seats: &mut Seats, conn: u32, exchange: u64, stream: Option<
 }
 
 /// The connection's cluster, if it has one, is told whether it can take one more exchange.
+#[inline(always)]
 pub(super) fn tell(seats: &Seats, offers: &mut Offers, conn: u32)
     requires { HasRoomFor conn seats.now.entries offers.old.entries }
     ensures { offers.new.entries ≡ told conn (under conn seats.now.entries) offers.old.entries }
