@@ -1,5 +1,5 @@
 // Bodies of a MiB, down and up, beside a plain copy of the same octets.
-use crate::telling::tell;
+use crate::tell;
 use bench_parts::{CpuStopwatch, tenths};
 use core_rig::{Peers, Rig, client_and_cluster, stream_after};
 use flow_notes::Event;

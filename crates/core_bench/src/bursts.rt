@@ -1,5 +1,5 @@
 // What one event costs that has to do with all exchanges of a client: a close, a low, SETTINGS.
-use crate::telling::tell;
+use crate::tell;
 use core_rig::{Cost, Peers, cost_behind, stream_after};
 use io_ports::NoMemory;
 use std::alloc::Global;

@@ -1,6 +1,6 @@
 // Small exchanges and ticks beside idle connections and exchanges.
 use crate::gets::{CONFIG, EXCHANGES, Route, exchanges};
-use crate::telling::tell;
+use crate::tell;
 use bench_parts::tenths;
 use core_rig::{Cost, Peers, Rig, cost_behind, stream_after};
 use io_ports::NoMemory;

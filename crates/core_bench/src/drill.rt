@@ -1,5 +1,5 @@
 // A drill from end to end, beside its octets through two watermark buffers.
-use crate::telling::tell;
+use crate::tell;
 use anyhow::ensure;
 use bench_parts::{CpuStopwatch, per_second};
 use core_rig::piece;

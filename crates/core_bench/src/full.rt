@@ -1,5 +1,5 @@
 // Exchanges whose buffers are full.
-use crate::telling::tell;
+use crate::tell;
 use core_rig::{Peers, Rig, piece, stream_after};
 use io_ports::NoMemory;
 use std::alloc::Global;

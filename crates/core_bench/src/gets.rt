@@ -1,6 +1,6 @@
 // Small requests and their responses, one after the other.
 use crate::drill::{drill_once, events_a_second};
-use crate::telling::tell;
+use crate::tell;
 use bench_parts::per_second;
 use core_rig::{Cost, Peers, client_and_cluster, cost_behind, stream_after};
 use io_ports::NoMemory;

@@ -8,9 +8,9 @@ mod drill;
 mod full;
 mod gets;
 mod many;
-mod telling;
 
 use crate::bursts::Burst;
+use bench_parts::print_line;
 use std::env;
 use std::time::CpuClock;
 
@@ -70,4 +70,13 @@ fn run(
 
 fn usage(rt: &impl Print) -> anyhow::Result<()> {
     Ok(rt.print(USAGE)?)
+}
+
+/// Prints a line of numbers, each behind its words, and the words at its end.
+pub(crate) fn tell(
+    rt: &(impl AllocGlobal + Print),
+    numbers: &[(&str, u64)],
+    end: &str,
+) -> anyhow::Result<()> {
+    Ok(print_line(rt, numbers, end)?)
 }

@@ -1,6 +1,6 @@
 // Connections and exchanges that come and go.
 use crate::gets::{CONFIG, Route, exchanges};
-use crate::telling::tell;
+use crate::tell;
 use core_rig::{Peers, Rig, client_and_cluster};
 use io_ports::NoMemory;
 use std::alloc::Global;

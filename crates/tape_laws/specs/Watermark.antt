@@ -24,8 +24,8 @@ limit setup (buffer.Stage f i) past = stage_limit (setup.stages f past) i
 limit setup (buffer.Send f) past = setup.send
 limit setup (buffer.Write c) past = setup.write
 
--- It is above from when its length passes the limit until it is at most half of it. The law `above_by_the_past` says so
--- without this step: over the limit at some moment, and over half of it ever since.
+-- It is above from when its length passes the limit until it is at most half of it. Of plain sessions the law
+-- `above_by_the_past` says so without this step: over the limit at some moment, and over half of it ever since.
 abbrev pub above : {Mark : Type 0} → Setup Mark → BufferId → History Mark → Bool
 above setup b [] = false
 above setup b (step ∷ past) =

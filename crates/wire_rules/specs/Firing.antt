@@ -19,7 +19,8 @@ abbrev pub due_moment : Config → ℕ → Armed → ℕ
 due_moment config state a =
     a.at + shortest config a.kind + (longest config a.kind - shortest config a.kind) * (1000000 - state) / 1000000
 
--- what stood before this dispatch's first fire note
+-- What stood before this dispatch's first fire note, or all where it has none. `start` is the answer as far as the steps were
+-- looked at, the newest first: at first all of it, and behind each fire note what stood before that.
 abbrev pub before_fires : WireHistory → WireHistory → WireHistory
 before_fires start [] = start
 before_fires start (Noted (note.Turn k e) ∷ past) = start

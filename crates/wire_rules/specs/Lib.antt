@@ -9,7 +9,6 @@ pub mod Floods
 pub mod Jobs
 pub mod Lengths
 pub mod Licenses
-pub mod OnTheWire
 pub mod Owed
 pub mod Timers
 pub mod WireSession

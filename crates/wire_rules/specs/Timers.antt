@@ -67,7 +67,8 @@ touched (Marked (Picked c (HeadOf f)) ∷ past) = f.exchange ∷ touched past
 touched (Marked (Picked c (TrailersOf f)) ∷ past) = f.exchange ∷ touched past
 touched (step ∷ past) = touched past
 
--- at a dispatch's end the touched exchanges that live on are armed anew, by number
+-- At a dispatch's end the touched exchanges that live on are armed anew, by number. That end has no note: it is told at the turn
+-- note of the next dispatch, so until then the timers of a history are those before it.
 abbrev pub rearmed : Config → WireHistory → List Armed → List Armed
 rearmed config past timers = arm_idle config (time past) (filter (λ x. has (touched past) x) (live past)) timers
 

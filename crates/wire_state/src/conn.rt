@@ -236,6 +236,7 @@ impl Conn {
         ensures stray { result ≤ self.now.windows.recv.stray }
         ensures sound { AreSoundWindows self.now.windows.recv }
     {
+        // That the windows are sound is told by what reads them.
         let _conn = self.windows.recv.conn();
         n.min(self.windows.recv.stray())
     }

@@ -4,6 +4,9 @@
 //! between any two calls (`specs/Sound.antt`) still holds. `go`: what is still to do (`specs/Progress.antt`) has become less, or has
 //! grown by so much at most, so that each dispatch comes to its end. `notes`: notes are appended, and none is changed. Where a call
 //! answers out of memory nothing is said of what it leaves: the core has failed then, and answers `Failed` from then on.
+//!
+//! Functions often stand in pairs, here and there: one looks up a connection by its number, and hands it on to the one that has the
+//! work. No clause tells that the number is there, so the first has an arm for none, which changes nothing.
 #![tactic(auto, unfolding(crate::specs::Progress::to_go, crate::specs::Progress::conn_go))]
 
 mod agenda;
