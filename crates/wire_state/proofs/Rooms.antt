@@ -48,7 +48,7 @@ pub carries_held : (stream n : ℕ) (last : Bool) (held : List ℕ) (old new : B
     → AppendsOctets old new (data_head stream n last ++ take n held) → n ≤ length held
 carries_held stream n last held old new grown added =
     let len : length new.octets ≡ length old.octets + (9 + length (take n held)) =
-        cc (ap length added.octets, length-append old.octets (data_head stream n last ++ take n held), length-append (data_head stream n last) (take n held)) in
+    cc (ap length added.octets, length-append old.octets (data_head stream n last ++ take n held), length-append (data_head stream n last) (take n held)) in
     omega (arith, grown, len, length-take n held)
 
 -- what holds of a flow that is there
