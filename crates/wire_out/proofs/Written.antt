@@ -11,7 +11,7 @@ use Rattle.h2_frames.specs.Spelling.{spelling}
 use Rattle.io_ports.specs.declared.octets.NoMemory.{NoMemory}
 use Rattle.std.proofs.Common.{refl}
 use Rattle.paged_map.specs.PagedMap.{WritesThrough, value_at}
-use Rattle.std.specs.Prelude.{Bool, Err, IfOk, IfSome, IsSome, List, MatchOption, None, Ok, OnOk, Option, Result, Some, not, take, ℕ, ◌&&◌, ◌++◌, ◌∷◌, ◌≡◌}
+use Rattle.std.specs.Prelude.{Bool, Err, IfOk, IfSome, IsSome, List, MatchOption, None, Ok, OnOk, Option, Result, Some, length, not, take, ℕ, ◌&&◌, ◌++◌, ◌∷◌, ◌≡◌, ◌≤◌}
 use Rattle.wire_flows.specs.Flows.{IsThere, flow_in}
 use Rattle.wire_flows.specs.Writes.{watchers_on}
 use Rattle.wire_flows.specs.declared.framing.Framed.{Framed as FramedBody}
@@ -76,16 +76,17 @@ module _ (n : ℕ) (old new : WireCore) (v w : Conn) (found : value_at n old.con
   -- a DATA frame
   body_on : (s : ℕ) (f : FlowId) → rest_of new ≡ rest_of old → v.outlet.write.limit ≡ old.config.limits.write_buffer → stream_in old.links f ≡ Some s → IsThere old.flows f → (r : Result (Option FramedBody) NoMemory) → OnOk r Room
       → IfOk r (λ o. MatchOption o (w ≡ v) (λ u. IfSome (flow_in old.flows f) (λ g. w.outlet.write.octets ≡ v.outlet.write.octets ++ (data_head s u.n u.last ++ take u.n (send g)))))
+      → IfOk r (λ o. IfSome o (λ u. IfSome (flow_in old.flows f) (λ g. u.n ≤ length (send g))))
       → IfOk r (λ o. MatchOption o (new.flows ≡ old.flows) (λ u. ChangesFlow f (body_framed u.n u.last) old.flows.exchanges new.flows.exchanges)) → IfOk r (λ o. IfSome o (λ u. Fills n u.rose v.outlet.write w.outlet.write old.flows new.flows))
       → IfOk r (λ o. IfSome o (λ u. u.drained ≡ (is_send_above old.flows.exchanges f && not (is_send_above new.flows.exchanges f))))
       → IfOk r (λ o. MatchOption o (Keeps old new) (λ u. Owes (framed_of n f u (watchers_on n new.flows)) old new))
-  body_on s f l limit on there (Err e) room p q fills drains = tt
-  body_on s f l limit on there (Ok None) room p q fills drains = nothing_written n old new v w found written p q l
-  body_on s f l limit on there (Ok (Some u)) room p q fills drains = at (flow_in old.flows f) refl there p
+  body_on s f l limit on there (Err e) room p few q fills drains = tt
+  body_on s f l limit on there (Ok None) room p few q fills drains = nothing_written n old new v w found written p q l
+  body_on s f l limit on there (Ok (Some u)) room p few q fills drains = at (flow_in old.flows f) refl there p few
     where
-      at : (o : Option Flow) → flow_in old.flows f ≡ o → IsSome o → IfSome o (λ g. w.outlet.write.octets ≡ v.outlet.write.octets ++ (data_head s u.n u.last ++ take u.n (send g))) → Owes (framed_of n f u (watchers_on n new.flows)) old new
-      at None is some octets = absurd (cc some)
-      at (Some g) is some octets = body_written n old new v w found written opened l room limit f s u g on is octets q fills drains
+      at : (o : Option Flow) → flow_in old.flows f ≡ o → IsSome o → IfSome o (λ g. w.outlet.write.octets ≡ v.outlet.write.octets ++ (data_head s u.n u.last ++ take u.n (send g))) → IfSome o (λ g. u.n ≤ length (send g)) → Owes (framed_of n f u (watchers_on n new.flows)) old new
+      at None is some octets few = absurd (cc some)
+      at (Some g) is some octets few = body_written n old new v w found written opened l room limit f s u g on is few octets q fills drains
 
 pub waits_written : (r : Result (Option (Framed × Bool)) NoMemory) (n : ℕ) (old new : WireCore) (v w : Conn) (found : value_at n old.conns ≡ Some v) → WritesThrough n old.conns w new.conns → w.open ≡ v.open → AreKept old.config.limits old.conns → (IsKept old.config.limits v.outlet → IsKept old.config.limits w.outlet) → rest_of new ≡ rest_of old
     → IfOk r (λ o. MatchOption o (w ≡ v) (λ f. w.outlet.write.octets ≡ v.outlet.write.octets ++ octets_of f.0))
@@ -108,7 +109,8 @@ list_written r n s f last old new v w found written opened kept keeps l p q fill
 pub body_written_on : (r : Result (Option FramedBody) NoMemory) (n s : ℕ) (f : FlowId) (old new : WireCore) (v w : Conn) (found : value_at n old.conns ≡ Some v) → WritesThrough n old.conns w new.conns → w.open ≡ v.open → AreKept old.config.limits old.conns → (IsKept old.config.limits v.outlet → OnOk r (IsKept old.config.limits w.outlet)) → rest_of new ≡ rest_of old
     → stream_in old.links f ≡ Some s → IsThere old.flows f
     → IfOk r (λ o. MatchOption o (w ≡ v) (λ u. IfSome (flow_in old.flows f) (λ g. w.outlet.write.octets ≡ v.outlet.write.octets ++ (data_head s u.n u.last ++ take u.n (send g)))))
+    → IfOk r (λ o. IfSome o (λ u. IfSome (flow_in old.flows f) (λ g. u.n ≤ length (send g))))
     → IfOk r (λ o. MatchOption o (new.flows ≡ old.flows) (λ u. ChangesFlow f (body_framed u.n u.last) old.flows.exchanges new.flows.exchanges)) → IfOk r (λ o. IfSome o (λ u. Fills n u.rose v.outlet.write w.outlet.write old.flows new.flows))
     → IfOk r (λ o. IfSome o (λ u. u.drained ≡ (is_send_above old.flows.exchanges f && not (is_send_above new.flows.exchanges f))))
     → IfOk r (λ o. MatchOption o (Keeps old new) (λ u. Owes (framed_of n f u (watchers_on n new.flows)) old new))
-body_written_on r n s f old new v w found written opened kept keeps l on there p q fills drains = body_on n old new v w found written opened s f l (limit_of n old.config.limits old.conns v found kept) on there r (room_on n old new v w found written opened r kept keeps) p q fills drains
+body_written_on r n s f old new v w found written opened kept keeps l on there p few q fills drains = body_on n old new v w found written opened s f l (limit_of n old.config.limits old.conns v found kept) on there r (room_on n old new v w found written opened r kept keeps) p few q fills drains

@@ -25,6 +25,7 @@ use Rattle.wire_run.specs.declared.stages.RouteStages.{RouteStages}
 use Rattle.wire_run.specs.Worlds.{HasWorld, IsNewTo, LeavesByRoom, StandsFor, leaves_by}
 use Rattle.wire_state.proofs.Counted.{rests_headline}
 use Rattle.wire_state.specs.Courses.{row_of}
+use Rattle.wire_state.specs.Counts.{EachHeeds}
 use Rattle.wire_state.specs.Marks.{AreWays}
 use Rattle.wire_state.specs.Noting.{IsStep}
 use Rattle.wire_state.specs.Tapes.{tape_setup}
@@ -47,7 +48,7 @@ none_fits l = record { recv = tt; stages = tt; send = on_true (nat_lt 0 l.send_b
     on_true false = tt
 
 abbrev pub none_left : (config : Config) → HasWorld config []
-none_left config = record { marked = []; notes = refl; ways = tt; promises = record { sent = λ f. refl; bounded = none_fits config.limits; counted = tt; last = tt }; left = tt; last = λ c. refl }
+none_left config = record { marked = []; notes = refl; ways = tt; promises = record { sent = λ f. refl; bounded = none_fits config.limits; counted = tt; last = tt }; left = tt; last = λ c. refl; taking = tt; heeding = tt }
 
 abbrev pub stands_first : (session : WireSession) (config : Config) → session.core.config ≡ config → Rests session.core.config.limits session.core.conns session.core.flows session.core.links [] → StandsFor session config []
 stands_first session config e s = record { under = e; world = none_left config; stands = s }
@@ -282,6 +283,8 @@ stands_on old new l e notes h d new_one s =
           last = λ c. t.left c ∙ left_by e old.core.conns (λ x. gone world_setup x k) c
               ∙ leaves_as c (gone world_setup c k) (gone world_setup c (before_dispatch (after t.steps k))) (octets_of c old.core.conns) (out world_setup c (before_dispatch (after t.steps k)))
               (Some e) (this_event (after t.steps k)) (turn.left_is c) (turn.waits_is c ∙ sym (s.stands.stands.writes c)) turn.event_is;
+          taking = t.stands.taking;
+          heeding = subst (λ (v : Config). EachHeeds v.limits (after t.steps k)) same t.counts.turns;
         };
         stands = rests;
       };

@@ -7,7 +7,9 @@ use Rattle.tape_laws.specs.Dispatches.{before_dispatch, events_back, has, this_e
 use Rattle.tape_laws.specs.Headline.{Headline}
 use Rattle.tape_laws.specs.History.{BeforeTurn, EachFollows, History, NoMark, notes_of}
 use Rattle.tape_laws.specs.World.{gone, out}
+use Rattle.wire_state.specs.Counts.{EachHeeds}
 use Rattle.wire_state.specs.Marks.{AreWays}
+use Rattle.wire_state.specs.Taking.{EachTakesWhatLies}
 use Rattle.wire_state.specs.Tapes.{tape_setup}
 use Rattle.wire_state.specs.Ways.{WayHistory, world_setup}
 use Rattle.worker_core.specs.Sessions.{StandsAt}
@@ -28,7 +30,7 @@ LeavesByRoom past = (c : ℕ) → gone world_setup c past ≡ gone world_setup c
 -- The tape with marks: the stages that each exchange passes, which are those of one row of the routes or none, and the stream that its
 -- request gets, which no note tells. At each moment what each flow sent on is a front of its body and no buffer holds more than its
 -- bound, after each dispatch each live flow is held back as often as it has sources that are above, and octets had left each
--- connection as its event says.
+-- connection as its event says. No note takes more octets than lie there, and none leave a receive buffer but at count 0.
 pub record HasWorld (config : Config) (history : History NoMark) : Type 0 where
   pub marked : WayHistory
   pub notes : notes_of marked ≡ notes_of history
@@ -36,6 +38,8 @@ pub record HasWorld (config : Config) (history : History NoMark) : Type 0 where
   pub promises : Headline (tape_setup config.limits) marked
   pub left : EachFollows (BeforeTurn LeavesByRoom) marked
   pub last : LeavesByRoom marked
+  pub taking : EachTakesWhatLies marked
+  pub heeding : EachHeeds config.limits marked
 
 -- the session has this configuration, and stands for that tape
 pub record StandsFor (session : WireSession) (config : Config) (history : History NoMark) : Type 0 where

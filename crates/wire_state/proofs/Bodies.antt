@@ -1,7 +1,7 @@
 -- A core goes on to stand for its tape where octets of a flow come, go on, are framed or dropped.
 use Rattle.exchange_core.specs.Changes.{ChangesFlow}
 use Rattle.exchange_core.specs.Effects.{arrived, body_framed, moved}
-use Rattle.exchange_core.specs.Flow.{Flow, last_place as send_place, send}
+use Rattle.exchange_core.specs.Flow.{Flow, last_place as send_place, octets_in, send}
 use Rattle.filter_chain.specs.Place.{Place}
 use Rattle.flow_gate.proofs.SameIds.{same_flow_exact}
 use Rattle.flow_rules.specs.declared.ids.FlowId.{FlowId}
@@ -12,7 +12,7 @@ use Rattle.std.proofs.lemmas.List.{append-nil}
 use Rattle.std.proofs.lemmas.Option.{slice_get_within}
 use Rattle.paged_map.specs.PagedMap.{PagedMap}
 use Rattle.std.specs.Option.{option_map}
-use Rattle.std.specs.Prelude.{Bool, IfSome, List, Option, Some, [], drop, false, if◌then◌else◌, is_some, slice_get, take, true, ℕ, ◌&&◌, ◌++◌, ◌+◌, ◌<◌, ◌==◌, ◌∷◌, ◌≡◌}
+use Rattle.std.specs.Prelude.{Bool, IfSome, IsSome, List, None, Option, Some, [], drop, false, if◌then◌else◌, is_some, length, slice_get, take, true, ℕ, ◌&&◌, ◌++◌, ◌+◌, ◌<◌, ◌==◌, ◌∷◌, ◌≡◌, ◌≤◌}
 use Rattle.tape_laws.specs.Flows.{same_flow}
 use Rattle.tape_laws.specs.History.{Noted}
 use Rattle.tape_laws.specs.World.{last_place, out, place, received, send as sends}
@@ -93,6 +93,7 @@ module _ (f : FlowId) (octets : List ℕ) (h : WayHistory) where
     come = s.come;
     unborn = unborn_still old new h (arrival ∷ h) c.flow.last (none_after f change old new c) (λ g none. (arrived_came g (apart_of f old g there none), refl)) s.unborn;
     fronts = arrived_fronts f octets h s.fronts;
+    taking = (tt, s.taking);
     fits = (record { flows = flows_fit new sound (arrival ∷ h) now none_now; outs = (fits_now h s.fits).outs }, s.fits);
     marks = marks_go old new links links h (arrival ∷ h) c.flow.last (λ x. refl) refl (λ x. refl) s.marks;
   }
@@ -128,11 +129,12 @@ module _ (f : FlowId) (q n : ℕ) (h : WayHistory) where
     shape = shape_kept (stages_passed f h) flow (moved q n flow) (moved_shape q n flow) is.shape;
   }
 
-  -- the place that they left, and the next, are there
+  -- the place that they left, and the next, are there, and so many lay in it
   pub record IsMoved (change : Flow → Flow) (flow : Flow) : Type 0 where
     pub next : Place
     pub there : slice_get flow.chain.places q ≡ Some next
     pub moves_so : change flow ≡ moved q n flow
+    pub few : n ≤ length (octets_in flow q)
 
   pub moves : {l : LimitKeys} → (old new : Flows) (conns : PagedMap Conn) (links : Links) (change : Flow → Flow) → ChangesFlow f change old.exchanges new.exchanges → IsThere old f
       → ((flow : Flow) → flow_in old f ≡ Some flow → FlowIs l f h flow → IsMoved change flow) → IsSound new → Stands l conns old links h → Stands l conns new links (move ∷ h)
@@ -146,6 +148,7 @@ module _ (f : FlowId) (q n : ℕ) (h : WayHistory) where
     come = s.come;
     unborn = unborn_still old new h (move ∷ h) c.flow.last (none_after f change old new c) (λ g none. (refl, refl)) s.unborn;
     fronts = fronts_still move h (λ g. refl) (λ g. refl) s.fronts;
+    taking = (few (flow_in old f) refl there, s.taking);
     fits = (record { flows = flows_fit new sound (move ∷ h) now none_now; outs = (fits_now h s.fits).outs }, s.fits);
     marks = marks_go old new links links h (move ∷ h) c.flow.last (λ x. refl) refl (λ x. refl) s.marks;
   }
@@ -155,6 +158,12 @@ module _ (f : FlowId) (q n : ℕ) (h : WayHistory) where
           (λ flow e was. let m = is flow e was in subst (FlowIs l f (move ∷ h)) (sym m.moves_so) (moved_own flow m.next m.there was))
           (λ g other. flow_still g h (move ∷ h) (record { places = moved_place g other; stages = refl; came = refl; went = refl }))
           s.flows_are
+
+      few : (o : Option Flow) → flow_in old f ≡ o → IsSome o → n ≤ length (place world_setup f q h)
+      few None found some = absurd (cc some)
+      few (Some flow) found some =
+          let was : FlowIs l f h flow = subst (λ (o : Option Flow). IfSome o (FlowIs l f h)) found (s.flows_are f) in
+          subst (λ (xs : List ℕ). n ≤ length xs) (was.holds q) (is flow found was).few
 
       none_now : (g : FlowId) (p : ℕ) → is_there new g ≡ false → place world_setup g p (move ∷ h) ≡ []
       none_now g p none = let gone = sym (there_after f change old.exchanges new.exchanges c g) ∙ none in moved_place g (apart_of f old g there gone) p ∙ s.empty g p gone
@@ -184,10 +193,10 @@ module _ (c : ℕ) (f : FlowId) (n : ℕ) (last : Bool) (h : WayHistory) where
   carried : {l : LimitKeys} → (flow : Flow) → FlowIs l f h flow → send flow ≡ sends world_setup f h
   carried flow is = is.holds (send_place flow) ∙ ap (λ (p : ℕ). place world_setup f p h) is.last
 
-  pub frames : {l : LimitKeys} → (old new : PagedMap Conn) (before after : Flows) (links : Links) (s : ℕ) (flow : Flow) → s ≡ stream_to f h → flow_in before f ≡ Some flow
+  pub frames : {l : LimitKeys} → (old new : PagedMap Conn) (before after : Flows) (links : Links) (s : ℕ) (flow : Flow) → s ≡ stream_to f h → flow_in before f ≡ Some flow → n ≤ length (send flow)
       → ChangesFlow f (body_framed n last) before.exchanges after.exchanges
       → ConnsAre (at_one c (λ xs. xs ++ (data_head s n last ++ take n (send flow)))) old new → ((d : ℕ) → OutFits l (octets_of d old) → OutFits l (octets_of d new)) → Stands l old before links h → Stands l new after links (frame ∷ h)
-  frames {l} old new before after links s flow on found change wrote_so room stands = record {
+  frames {l} old new before after links s flow on found few change wrote_so room stands = record {
     writes = now;
     flows_are = flows_changed f (body_framed n last) before after change h (frame ∷ h)
         (λ g e was. framed_own g was)
@@ -201,6 +210,7 @@ module _ (c : ℕ) (f : FlowId) (n : ℕ) (last : Bool) (h : WayHistory) where
     come = λ d e. let never = stands.come d e in (wrote_so.there d ∙ never.0, never.1);
     unborn = unborn_still before after h (frame ∷ h) change.flow.last (none_after f (body_framed n last) before after change) (λ g none. (refl, framed_sent c f n last h g (apart_of f before g (ap is_some found) none))) stands.unborn;
     fronts = framed_fronts c f n last h (framed_own flow here).loses stands.fronts;
+    taking = (subst (λ (xs : List ℕ). n ≤ length xs) (carried flow here) few, stands.taking);
     fits = let fit = fits_now h stands.fits in (record { flows = λ g. framed_fits c f n last h g (fit.flows g); outs = outs_fit l old new h (frame ∷ h) stands.writes now room fit.outs }, stands.fits);
     marks = marks_go before after links links h (frame ∷ h) change.flow.last (λ x. refl) refl (λ x. refl) stands.marks;
   }
@@ -229,6 +239,7 @@ flow_goes f change old new keeps c conns links h s = record {
   come = s.come;
   unborn = unborn_still old new h h c.flow.last (none_after f change old new c) (λ g none. (refl, refl)) s.unborn;
   fronts = s.fronts;
+  taking = s.taking;
   fits = s.fits;
   marks = marks_go old new links links h h c.flow.last (λ x. refl) refl (λ x. refl) s.marks;
 }
@@ -245,6 +256,7 @@ flows_go {l} old new last same conns links h s = record {
   come = s.come;
   unborn = unborn_still old new h h last (λ f none. ap is_some (same f) ∙ none) (λ f none. (refl, refl)) s.unborn;
   fronts = s.fronts;
+  taking = s.taking;
   fits = s.fits;
   marks = marks_go old new links links h h last (λ x. refl) refl (λ x. refl) s.marks;
 }
@@ -262,6 +274,7 @@ flows_mapped {l} change keeps old new last same conns links h s = record {
   come = s.come;
   unborn = unborn_still old new h h last (λ f none. ap is_some (same f) ∙ (some_mapped change (flow_in old f) ∙ none)) (λ f none. (refl, refl)) s.unborn;
   fronts = s.fronts;
+  taking = s.taking;
   fits = s.fits;
   marks = marks_go old new links links h h last (λ x. refl) refl (λ x. refl) s.marks;
 }

@@ -21,8 +21,6 @@ use Rattle.std.proofs.lemmas.Option.{same_Some}
 use Rattle.std.specs.Option.{option_map, option_map_or}
 use Rattle.std.specs.Prelude.{Bool, IfSome, IsSome, List, None, Option, Some, [], count_by, false, if◌then◌else◌, is_some, length, true, ℕ, ◌+◌, ◌<◌, ◌==◌, ◌∷◌, ◌≡◌, ◌⊎◌}
 use Rattle.tape_laws.specs.Dispatches.{has, live}
-use Rattle.tape_laws.specs.Headline.{CountsItsSources}
-use Rattle.tape_laws.specs.History.{BeforeTurn}
 use Rattle.tape_laws.specs.Pauses.{pauses, resumes}
 use Rattle.tape_laws.specs.Sources.{disabled, source_buffers}
 use Rattle.tape_laws.specs.Watermark.{above}
@@ -39,7 +37,7 @@ use Rattle.wire_state.proofs.Promised.{same_out}
 use Rattle.wire_state.proofs.Rising.{disabled_goes, drained, risen}
 use Rattle.wire_state.proofs.Standing.{other_now, there_now}
 use Rattle.wire_state.proofs.Watching.{lows_same, watchers_count, watches}
-use Rattle.wire_state.specs.Counts.{AreOver, Counts, IsCounted, MayLag, holds_back, is_above_at}
+use Rattle.wire_state.specs.Counts.{AreOver, Counts, Heeds, IsCounted, MayLag, holds_back, is_above_at}
 use Rattle.wire_state.specs.Tapes.{conn_to, tape_setup}
 use Rattle.wire_state.specs.Ways.{WayHistory, WayStep, after, stages_passed}
 use Rattle.wire_state.specs.Worlds.{FlowIs, Stands, has_conn, octets_of}
@@ -145,7 +143,7 @@ module _ (l : LimitKeys) (t u t' u' : Option ℕ) (conns conns' : PagedMap Conn)
     pub marks : (c : ℕ) → holds_back c flows' ≡ is_above_at c conns'
     pub known : (c : ℕ) → has_conn c conns' ≡ true → IsSome (write_at c flows')
     pub told : (b : BufferId) → (pending_on flows'.gates b ≡ []) ⊎ MayLag t' u' b
-    pub turns : BeforeTurn (CountsItsSources (tape_setup l)) step h
+    pub turns : Heeds l step h
     -- the pauses are of flows of which a source rises, and the resumes of flows of which one drains or drained
     pub holds : AreHolds tail
     pub quiet : (f : FlowId) → (pauses f (step ∷ h) ≡ pauses f h) × (resumes f (step ∷ h) ≡ resumes f h)

@@ -17,8 +17,6 @@ use Rattle.std.proofs.lemmas.Bool.Decides.{nat_tests}
 use Rattle.std.specs.Option.{option_map, option_map_or}
 use Rattle.std.specs.Prelude.{Bool, IsSome, List, None, Option, Some, [], false, if◌then◌else◌, is_some, length, not, sum_by, true, ℕ, ◌&&◌, ◌+◌, ◌==◌, ◌∷◌, ◌≡◌, ◌≤◌, ◌⊎◌}
 use Rattle.tape_laws.specs.Dispatches.{has, live}
-use Rattle.tape_laws.specs.Headline.{CountsItsSources}
-use Rattle.tape_laws.specs.History.{BeforeTurn}
 use Rattle.tape_laws.specs.Pauses.{pauses, resumes}
 use Rattle.tape_laws.specs.Sources.{source_buffers}
 use Rattle.tape_laws.specs.Watermark.{above, drains_at}
@@ -35,7 +33,7 @@ use Rattle.wire_state.proofs.Promised.{same_out}
 use Rattle.wire_state.proofs.Rising.{drained, eased_at, of_one, risen}
 use Rattle.wire_state.proofs.Standing.{other_now, there_now}
 use Rattle.wire_state.proofs.Watching.{lows_more, watches}
-use Rattle.wire_state.specs.Counts.{Counts, Frees, MayLag, eased, holds_back, is_above_at}
+use Rattle.wire_state.specs.Counts.{Counts, Frees, Heeds, MayLag, eased, holds_back, is_above_at}
 use Rattle.wire_state.specs.Tapes.{tape_setup}
 use Rattle.wire_state.specs.Ways.{WayHistory, WayStep}
 use Rattle.wire_state.specs.Worlds.{Stands, has_conn}
@@ -207,7 +205,7 @@ module _ {l : LimitKeys} (n : ℕ) (old new : PagedMap Conn) (v w : Conn) (found
             sums _ _ _ _ (lows_more f (buffer.Write n) [] (pending_on flows.gates) false refl (none_before (buffer.Write n)) (watched_by flows.gates f)) refl
 
     -- all of it
-    pub frees_go : eased_at l step h ≡ Some (buffer.Write n) → ((f : FlowId) → WayStays step h f) → live (step ∷ h) ≡ live h → BeforeTurn (CountsItsSources (tape_setup l)) step h
+    pub frees_go : eased_at l step h ≡ Some (buffer.Write n) → ((f : FlowId) → WayStays step h f) → live (step ∷ h) ≡ live h → Heeds l step h
         → ((f : FlowId) → (pauses f (step ∷ h) ≡ pauses f h) × (resumes f (step ∷ h) ≡ resumes f h)) → ((f : FlowId) → risen l f step h ≡ 0) → CountsGo l None None (Some n) None old new flows flows' step [] h
     frees_go eases ways living turned quiet rise = record {
       sound = frees.sound c.sound;

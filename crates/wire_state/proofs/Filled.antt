@@ -16,8 +16,6 @@ use Rattle.std.proofs.lemmas.Bool.Decides.{nat_tests}
 use Rattle.std.specs.Option.{option_and_then, option_map, option_map_or}
 use Rattle.std.specs.Prelude.{Bool, IsSome, List, None, Option, Some, [], false, if◌then◌else◌, is_some, length, not, true, ℕ, ◌&&◌, ◌++◌, ◌+◌, ◌<◌, ◌==◌, ◌||◌, ◌∷◌, ◌≡◌, ◌≤◌, ◌⊎◌}
 use Rattle.tape_laws.specs.Dispatches.{has, live}
-use Rattle.tape_laws.specs.Headline.{CountsItsSources}
-use Rattle.tape_laws.specs.History.{BeforeTurn}
 use Rattle.tape_laws.specs.Pauses.{pauses, resumes}
 use Rattle.tape_laws.specs.Sources.{source_buffers}
 use Rattle.tape_laws.specs.Watermark.{above, rises_at}
@@ -32,7 +30,7 @@ use Rattle.wire_state.proofs.Holding.{AreHolds, all_append, paused_append, pause
 use Rattle.wire_state.proofs.Promised.{same_out}
 use Rattle.wire_state.proofs.Rising.{drained, of_one, risen}
 use Rattle.wire_state.proofs.Standing.{other_now, there_now}
-use Rattle.wire_state.specs.Counts.{Counts, Fills, MayLag, holds_back, is_above_at}
+use Rattle.wire_state.specs.Counts.{Counts, Fills, Heeds, MayLag, holds_back, is_above_at}
 use Rattle.wire_state.specs.Noting.{risen_of}
 use Rattle.wire_state.specs.Tapes.{tape_setup}
 use Rattle.wire_state.specs.Ways.{WayHistory, WayStep}
@@ -149,7 +147,7 @@ module _ {l : LimitKeys} {t u : Option ℕ} (n : ℕ) (old new : PagedMap Conn) 
     -- all of it; other notes may stand behind the pauses, that pause no flow
     pub fills_go : fed_by (tape_setup l) step h ≡ Some (buffer.Write n) → FlowsGo flows flows' → ((x : ℕ) → is_live_in flows' x ≡ is_live_in flows x)
         → (more : List Note) → AreHolds more → ((f : FlowId) → paused_in f more ≡ 0) → ((f : FlowId) → flows.exchanges.last < f.exchange → resumed_in f more ≡ 0)
-        → ((f : FlowId) → WayStays step h f) → live (step ∷ h) ≡ live h → BeforeTurn (CountsItsSources (tape_setup l)) step h
+        → ((f : FlowId) → WayStays step h f) → live (step ∷ h) ≡ live h → Heeds l step h
         → ((f : FlowId) → (pauses f (step ∷ h) ≡ pauses f h) × (resumes f (step ∷ h) ≡ resumes f h))
         → ((f : FlowId) (flow : Flow) → IsSeen l t u t u old new flows flows' step (risen_of rose n (watchers_on n flows') ++ more) h f flow → resumed_in f more ≡ drained l f step h)
         → CountsGo l t u t u old new flows flows' step (risen_of rose n (watchers_on n flows') ++ more) h

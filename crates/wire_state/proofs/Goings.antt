@@ -265,6 +265,7 @@ first_stands {l} conns flows links c f last none = record {
     unsent = refl;
   };
   fronts = λ g. refl;
+  taking = tt;
   fits = record { flows = λ g. empty_fits g [] (λ p. refl); outs = λ d some. least _ };
   marks = marks_first flows links last none;
 }

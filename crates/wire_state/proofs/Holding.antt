@@ -15,14 +15,14 @@ use Rattle.std.specs.List.{AllByRecursion}
 use Rattle.std.specs.Prelude.{List, [], if◌then◌else◌, ℕ, ◌++◌, ◌+◌, ◌∷◌, ◌≡◌}
 use Rattle.tape_laws.specs.Dispatches.{live}
 use Rattle.tape_laws.specs.Flows.{same_flow}
-use Rattle.tape_laws.specs.Headline.{CountsItsSources}
-use Rattle.tape_laws.specs.History.{BeforeTurn, EachFollows, Noted}
+use Rattle.tape_laws.specs.History.{EachFollows, Noted}
 use Rattle.tape_laws.specs.Pauses.{pauses, resumes}
 use Rattle.tape_laws.specs.Watermark.{above}
 use Rattle.tape_laws.specs.World.{gone}
 use Rattle.wire_flows.specs.Flows.{Flows}
 use Rattle.wire_links.specs.Links.{Links}
 use Rattle.wire_state.proofs.Standing.{conns_same, pause_flows, pause_shut, pause_writes, resume_flows, resume_shut, resume_writes, same_octets, wrote}
+use Rattle.wire_state.specs.Counts.{Heeds}
 use Rattle.wire_state.specs.Marks.{AreWays, rows_in}
 use Rattle.wire_state.specs.Noting.{pauses_of}
 use Rattle.wire_state.specs.Tapes.{conn_to, tape_setup}
@@ -128,12 +128,12 @@ holds_rows [] = refl
 holds_rows (n ∷ ns) = holds_rows ns
 
 -- no dispatch begins
-hold_turns : (l : LimitKeys) (n : Note) → IsHold n → (h : WayHistory) → BeforeTurn (CountsItsSources (tape_setup l)) (Noted n) h
+hold_turns : (l : LimitKeys) (n : Note) → IsHold n → (h : WayHistory) → Heeds l (Noted n) h
 hold_turns l (note.Pause f b) i h = tt
 hold_turns l (note.Resume f b) i h = tt
 hold_turns l n i h = absurd i
 
-pub holds_turns : (l : LimitKeys) (ns : List Note) → AreHolds ns → (h : WayHistory) → EachFollows (BeforeTurn (CountsItsSources (tape_setup l))) h → EachFollows (BeforeTurn (CountsItsSources (tape_setup l))) (after (noted ns) h)
+pub holds_turns : (l : LimitKeys) (ns : List Note) → AreHolds ns → (h : WayHistory) → EachFollows (Heeds l) h → EachFollows (Heeds l) (after (noted ns) h)
 holds_turns l [] a h e = e
 holds_turns l (n ∷ ns) a h e = holds_turns l ns a.1 (Noted n ∷ h) (hold_turns l n a.0 h, e)
 

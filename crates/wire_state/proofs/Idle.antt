@@ -55,7 +55,7 @@ record IsNothing (n : Note) : Type 0 where
 
 nothing_of : (n : Note) → IsIdle n → IsNothing n
 nothing_of (note.Waste c s n) i = record {
-  writes = λ h. record { outs = λ d. refl };
+  writes = λ h. record { outs = λ d. refl; taken = tt };
   flows = λ h. record { places = λ g p. refl; stages = λ g. refl; stream = λ g. refl; came = λ g. refl; went = λ g. refl; began = refl; opened = λ x. refl };
   shut = λ h. record { closed = λ d. refl; come = λ d e. e };
   left = λ h d. refl;
@@ -63,7 +63,7 @@ nothing_of (note.Waste c s n) i = record {
   counts = λ conns fs h counted. idle_go conns fs (Noted (note.Waste c s n)) h counted (λ f there. record { stages = refl; conn = refl; spared = refl }) refl tt (λ f. (refl, refl)) (λ f. refl) (λ f. refl);
 }
 nothing_of (note.Fire k x) i = record {
-  writes = λ h. record { outs = λ d. refl };
+  writes = λ h. record { outs = λ d. refl; taken = tt };
   flows = λ h. record { places = λ g p. refl; stages = λ g. refl; stream = λ g. refl; came = λ g. refl; went = λ g. refl; began = refl; opened = λ x. refl };
   shut = λ h. record { closed = λ d. refl; come = λ d e. e };
   left = λ h d. refl;
@@ -71,7 +71,7 @@ nothing_of (note.Fire k x) i = record {
   counts = λ conns fs h counted. idle_go conns fs (Noted (note.Fire k x)) h counted (λ f there. record { stages = refl; conn = refl; spared = refl }) refl tt (λ f. (refl, refl)) (λ f. refl) (λ f. refl);
 }
 nothing_of (note.Gone x) i = record {
-  writes = λ h. record { outs = λ d. refl };
+  writes = λ h. record { outs = λ d. refl; taken = tt };
   flows = λ h. record { places = λ g p. refl; stages = λ g. refl; stream = λ g. refl; came = λ g. refl; went = λ g. refl; began = refl; opened = λ x. refl };
   shut = λ h. record { closed = λ d. refl; come = λ d e. e };
   left = λ h d. refl;

@@ -37,7 +37,7 @@ use Rattle.wire_state.specs.Counts.{Counts, Frees, eased, is_above_at}
 use Rattle.wire_state.specs.Limits.{OutFits}
 use Rattle.wire_state.specs.Marks.{footing_of}
 use Rattle.wire_state.specs.Tapes.{tape_setup}
-use Rattle.wire_state.specs.Ways.{WayHistory, WayStep, after}
+use Rattle.wire_state.specs.Ways.{WayHistory, WayStep, after, world_setup}
 use Rattle.wire_state.specs.Worlds.{Leaves, Stands, ToldBy, left_after, octets_of}
 use Rattle.wm_buffer.specs.Watermark.{above_after}
 use Rattle.wire_state.specs.declared.conn.Conn.{Conn}
@@ -57,10 +57,16 @@ module _ (n : ℕ) (old new : WireCore) (v w : Conn) (found : value_at n old.con
   abbrev out_step : WayStep
   out_step = Noted (note.Out n k)
 
+  -- no more left than waited
+  few : (h : WayHistory) → Stands old.config.limits old.conns old.flows old.links h → k ≤ length (out world_setup n h)
+  few h s =
+      let octets : octets_of n old.conns ≡ v.outlet.write.octets = ap (λ (o : Option Conn). option_map_or (λ conn. conn.outlet.write.octets) o []) found in
+      subst (λ (xs : List ℕ). k ≤ length xs) (sym octets ∙ s.writes n) (omega (arith, many))
+
   out_stands : (h : WayHistory) → Stands old.config.limits old.conns old.flows old.links h → Stands old.config.limits new.conns new.flows new.links (out_step ∷ h)
   out_stands h s = links_kept old new rest (out_step ∷ h)
       (gates_stand old.flows new.flows frees.rest new.conns old.links (out_step ∷ h)
-      (wrote (at_one n (drop k)) out_step h old.conns new.conns old.flows old.links (out_writes h n k) (out_flows h n k) (out_shut h n k) (conns_written n old.conns new.conns v w found written (drop k) e opened) (one_room old.config.limits n old.conns new.conns v w found written shorter) s))
+      (wrote (at_one n (drop k)) out_step h old.conns new.conns old.flows old.links (out_writes h n k (few h s)) (out_flows h n k) (out_shut h n k) (conns_written n old.conns new.conns v w found written (drop k) e opened) (one_room old.config.limits n old.conns new.conns v w found written shorter) s))
 
   less : (h : WayHistory) → length (out (tape_setup old.config.limits) n (out_step ∷ h)) ≤ length (out (tape_setup old.config.limits) n h)
   less h = omega (arith, length-drop (if n == n then k else 0) (out (tape_setup old.config.limits) n h))

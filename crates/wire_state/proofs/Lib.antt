@@ -13,6 +13,7 @@ pub mod Fresh
 pub mod Givens
 pub mod Goings
 pub mod Grown
+pub mod Heeding
 pub mod Held
 pub mod Holding
 pub mod Idle

@@ -67,6 +67,7 @@ links_go old new k conns flows h s = record {
   come = s.come;
   unborn = s.unborn;
   fronts = s.fronts;
+  taking = s.taking;
   fits = s.fits;
   marks = marks_go flows flows old new h h refl k.ends refl (λ x. refl) s.marks;
 }
@@ -160,6 +161,7 @@ comes n old new c flows links h known came fresh s = record {
       (λ other. (ap is_some (c.others d other) ∙ never.0, never.1));
   unborn = s.unborn;
   fronts = s.fronts;
+  taking = s.taking;
   fits = s.fits;
   marks = s.marks;
 }
@@ -196,6 +198,7 @@ forgets n old new f flows links links' h same known s = record {
       (by_case (n == d) (λ same. ap (λ v. has_conn v new) (sym (is_number n d same)) ∙ ap is_some f.gone) (λ other. ap is_some (f.others d other) ∙ never.0), never.1);
   unborn = s.unborn;
   fronts = s.fronts;
+  taking = s.taking;
   fits = s.fits;
   marks = marks_go flows flows links links' h h refl same refl (λ x. refl) s.marks;
 }
@@ -242,6 +245,7 @@ drops_rest {l} n k old new d flows links h s = record {
   come = λ c e. let never = s.come c e in (d.there c ∙ never.0, never.1);
   unborn = unborn_still flows flows h (Noted (note.Turn k (event.Gone n)) ∷ h) refl (λ f none. none) (λ f none. (refl, refl)) s.unborn;
   fronts = fronts_still (Noted (note.Turn k (event.Gone n))) h (λ f. refl) (λ f. refl) s.fronts;
+  taking = (tt, s.taking);
   fits = let fit = fits_now h s.fits in (
     record {
       flows = λ f. still_fits f h (Noted (note.Turn k (event.Gone n)) ∷ h) (record { places = λ p. refl; stages = refl; came = refl; went = refl }) (fit.flows f);

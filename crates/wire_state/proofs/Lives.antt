@@ -88,6 +88,7 @@ module _ (x : ℕ) (why : Cause) (h : WayHistory) (old new : Flows) (d : Dooms x
     come = s.come;
     unborn = unborn_still old new h (ending ∷ h) d.gone.last none_after (λ f none. (refl, refl)) s.unborn;
     fronts = fronts_still ending h (λ f. refl) (λ f. refl) s.fronts;
+    taking = (tt, s.taking);
     fits = let fit = fits_now h s.fits in (record { flows = λ f. doomed_fits x why h f (fit.flows f); outs = fit.outs }, s.fits);
     marks = marks_doomed x why old new links links' h d.gone.last u.ends s.marks;
   }
@@ -227,6 +228,7 @@ module _ (x c s d : ℕ) (to : Option ℕ) (spec : StartSpec) (config : Config) 
         (record { flows = begun_fits (passing ∷ h) (λ f e. passed_stages f false e) (λ f p. refl) (λ f. refl) (λ f. refl) stands.empty stands.unborn fit.flows; outs = fit.outs }, stands.fits),
       );
       fronts = fronts_still start (passing ∷ h) (λ f. refl) (λ f. refl) (fronts_still passing h (λ f. refl) (λ f. refl) stands.fronts);
+      taking = (tt, (tt, stands.taking));
       marks = marks_begun config x c s d spec.row to h old new links links' linked refl number b.last linked_so.ends stands.marks;
     }
 
@@ -259,6 +261,7 @@ module _ (x s : ℕ) (h : WayHistory) where
     come = stands.come;
     unborn = unborn_still flows flows h (opening ∷ h) refl (λ f none. none) (λ f none. (refl, refl)) stands.unborn;
     fronts = fronts_still opening h (λ f. refl) (λ f. refl) stands.fronts;
+    taking = (tt, stands.taking);
     fits = let fit = fits_now h stands.fits in
         (record { flows = λ f. still_fits f h (opening ∷ h) (record { places = λ p. refl; stages = refl; came = refl; went = refl }) (fit.flows f); outs = fit.outs }, stands.fits);
     marks = marks_opened x s h flows links links' may opened.ends stands.marks;

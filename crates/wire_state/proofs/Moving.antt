@@ -3,7 +3,7 @@ use Rattle.exchange_core.specs.Changes.{ChangesFlow}
 use Rattle.exchange_core.specs.Effects.{moved}
 use Rattle.exchange_core.specs.Exchange.{IsFlowOf}
 use Rattle.exchange_core.specs.Flow.{Flow, last_place as send_place}
-use Rattle.exchange_core.specs.Moves.{next_step, stepped}
+use Rattle.exchange_core.specs.Moves.{is_free, may_release, next_step, stepped}
 use Rattle.filter_chain.specs.Chain.{above_at}
 use Rattle.filter_chain.specs.Place.{Place}
 use Rattle.filter_chain.specs.declared.stage.StageKind.{StageKind as PlaceKind}
@@ -43,13 +43,14 @@ use Rattle.wire_state.proofs.Counting.{CountsGo, IsSeen, above_same, changed_go,
 use Rattle.wire_state.proofs.Filled.{unborn_gone}
 use Rattle.wire_state.proofs.Givens.{there_given}
 use Rattle.wire_state.proofs.Goings.{told_by}
+use Rattle.wire_state.proofs.Heeding.{first_heeds}
 use Rattle.wire_state.proofs.Holding.{holds_gone, holds_rows, holds_stand, holds_ways, noted, paused_in, resumed_in, shown_noted}
 use Rattle.wire_state.proofs.Overs.{FlowGoes, moved_goes}
 use Rattle.wire_state.proofs.Rising.{drained, of_one, risen}
 use Rattle.wire_state.proofs.Shifting.{crossed_holds, crossed_pauses, crossed_resumes, other_drains, other_rises, own_drains, own_rises, place_named, recv_drains}
 use Rattle.wire_state.proofs.Stepping.{IsStep, made, move_stands, stage_of, there}
 use Rattle.wire_state.proofs.Watching.{lows_more, lows_same, watches}
-use Rattle.wire_state.specs.Counts.{Counts, MayLag}
+use Rattle.wire_state.specs.Counts.{Counts, Heeds, MayLag}
 use Rattle.wire_state.specs.Limits.{shape_of}
 use Rattle.wire_state.specs.Marks.{Footing}
 use Rattle.wire_state.specs.Noting.{crossed_of, late_of, moved_of}
@@ -366,6 +367,23 @@ module _ (f : FlowId) (old new : Flows) (o : Outcome) (is : o ≡ option_map_or 
     where_moved : (flow : Flow) → flow_in old f ≡ Some flow → FlowIs l f h flow → FlowGoes flow (stepped old.gates (goes_to old f) flow)
     where_moved flow found was = subst (FlowGoes flow) (sym (made f old new o is changes m e h flow found was).after_it) (moved_goes m.place m.n flow)
 
+    -- octets left the receive buffer at count 0
+    heeded : ((g : FlowId) → IfSome (flow_in old g) (FlowIs l g h)) → Heeds l move h
+    heeded are = at (flow_in old f) refl (there f old new o is changes m e (flow_in old f) refl)
+      where
+        some_place : (p l : ℕ) → m.place ≡ p → m.place < l → p ≡ 0 → 0 < l
+        some_place p l place before none = omega (arith, place, before, none)
+
+        by_place : (flow : Flow) → flow_in old f ≡ Some flow → FlowIs l f h flow → IsStep f old.gates (goes_to old f) flow m → (p : ℕ) → m.place ≡ p → Heeds l (Noted (note.Move f p m.n)) h
+        by_place flow found was k zero place = first_heeds conns old h c f flow found was m.n (subst (λ (p : ℕ). is_free old.gates (goes_to old f) flow p ≡ true) place k.free) (some_place zero (send_place flow) place k.before_last refl) (k.all ∙ ap (may_release old.gates flow) place)
+        by_place flow found was k (suc p) place = tt
+
+        at : (v : Option Flow) → flow_in old f ≡ v → IsSome v → Heeds l move h
+        at None none some = absurd (cc some)
+        at (Some flow) found some =
+            let was : FlowIs l f h flow = subst (λ (v : Option Flow). IfSome v (FlowIs l f h)) found (are f) in
+            by_place flow found was (made f old new o is changes m e h flow found was) m.place refl
+
     pub moves_go : ((g : FlowId) → IfSome (flow_in old g) (FlowIs l g h)) → CountsGo l t None t (late_of f m) conns conns old new move tail h
     moves_go are = record {
       sound = sound;
@@ -376,7 +394,7 @@ module _ (f : FlowId) (old new : Flows) (o : Outcome) (is : o ≡ option_map_or 
       marks = λ d. ap held (writes.writes d) ∙ c.marks d;
       known = λ d there. subst IsSome (sym (writes.writes d)) (c.known d there);
       told = told_of_it;
-      turns = tt;
+      turns = heeded are;
       holds = crossed_holds f m.rose m.drained m.overflow;
       quiet = λ g. (refl, refl);
       paused = paused_of;

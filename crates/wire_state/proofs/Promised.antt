@@ -1,5 +1,6 @@
 -- From what a core stands for to what its tape promises.
 use Rattle.flow_rules.specs.declared.ids.FlowId.{FlowId}
+use Rattle.flow_laws.proofs.Sound.{each_map}
 use Rattle.flow_notes.specs.declared.events.Event.TheVariants as event
 use Rattle.flow_notes.specs.declared.notes.CloseCause.TheVariants as cause
 use Rattle.flow_notes.specs.declared.notes.Note.TheVariants as note
@@ -22,9 +23,10 @@ use Rattle.tape_laws.specs.Units.{StageKind}
 use Rattle.tape_laws.specs.World.{last_place, out, place, received, sent, window_update}
 use Rattle.wire_flows.specs.Flows.{Flows}
 use Rattle.wire_links.specs.Links.{Links}
+use Rattle.wire_state.specs.Counts.{EachHeeds, Heeds}
 use Rattle.wire_state.specs.Limits.{Fits, StagesFit}
 use Rattle.wire_state.specs.Tapes.{Promises, tape_setup}
-use Rattle.wire_state.specs.Ways.{WayHistory, stages_passed, stream_to, world_setup}
+use Rattle.wire_state.specs.Ways.{WayHistory, WayStep, stages_passed, stream_to, world_setup}
 use Rattle.wire_state.specs.Worlds.{Stands}
 use Rattle.wire_state.specs.declared.conn.Conn.{Conn}
 
@@ -107,6 +109,10 @@ promised {l} conns flows links h s = record {
   bounded = each_moment l (Fits l) (IsBounded (tape_setup l)) (is_bounded l) h s.fits;
 }
 
+before_turns : (l : LimitKeys) (step : WayStep) (h : WayHistory) → Heeds l step h → BeforeTurn (CountsItsSources (tape_setup l)) step h
+before_turns l (Noted (note.Turn k e)) h heeds = heeds
+before_turns l step h heeds = tt
+
 -- with the counts it is the headline, as a plain session has it
-pub headline_of : {l : LimitKeys} → (h : WayHistory) → Promises l h → EachFollows (BeforeTurn (CountsItsSources (tape_setup l))) h → CountsItsSources (tape_setup l) h → Headline (tape_setup l) h
-headline_of h p counted last = record { sent = p.sent; bounded = p.bounded; counted = counted; last = last }
+pub headline_of : {l : LimitKeys} → (h : WayHistory) → Promises l h → EachHeeds l h → CountsItsSources (tape_setup l) h → Headline (tape_setup l) h
+headline_of {l} h p counted last = record { sent = p.sent; bounded = p.bounded; counted = each_map (Heeds l) (BeforeTurn (CountsItsSources (tape_setup l))) (before_turns l) h counted; last = last }

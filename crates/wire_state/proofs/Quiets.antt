@@ -8,8 +8,6 @@ use Rattle.std.proofs.Common.{ap, arith, inl, inr, refl, subst, sym, ◌∙◌}
 use Rattle.std.specs.Option.{option_map_or}
 use Rattle.std.specs.Prelude.{IsSome, List, Option, [], false, true, ℕ, ◌+◌, ◌∷◌, ◌≡◌, ◌⊎◌}
 use Rattle.tape_laws.specs.Dispatches.{has, live}
-use Rattle.tape_laws.specs.Headline.{CountsItsSources}
-use Rattle.tape_laws.specs.History.{BeforeTurn}
 use Rattle.tape_laws.specs.Pauses.{pauses, resumes}
 use Rattle.wire_flows.specs.Flows.{Flows, is_live_in, is_there}
 use Rattle.wire_flows.specs.Sound.{IsSound}
@@ -17,8 +15,7 @@ use Rattle.wire_flows.specs.Writes.{Write}
 use Rattle.wire_state.proofs.Counting.{AboveGoes, CountsGo, FlowsGo, WayStays, above_same, same_go}
 use Rattle.wire_state.proofs.CountsKept.{AboveStays, write_stays}
 use Rattle.wire_state.proofs.Rising.{drained, risen}
-use Rattle.wire_state.specs.Counts.{Counts, MayLag}
-use Rattle.wire_state.specs.Tapes.{tape_setup}
+use Rattle.wire_state.specs.Counts.{Counts, Heeds, MayLag}
 use Rattle.wire_state.specs.Ways.{WayHistory, WayStep}
 use Rattle.wire_state.specs.declared.conn.Conn.{Conn}
 
@@ -29,7 +26,7 @@ module _ {l : LimitKeys} {t u : Option ℕ} (conns conns' : PagedMap Conn) (flow
   more : (a b : ℕ) → b ≡ 0 → a + 0 ≡ a + b
   more a b e = omega (arith, e)
 
-  pub quiet_go : ((d : ℕ) → AboveGoes l conns conns' d) → AboveStays conns conns' → ((f : FlowId) → is_there flows f ≡ true → WayStays step h f) → live (step ∷ h) ≡ live h → BeforeTurn (CountsItsSources (tape_setup l)) step h
+  pub quiet_go : ((d : ℕ) → AboveGoes l conns conns' d) → AboveStays conns conns' → ((f : FlowId) → is_there flows f ≡ true → WayStays step h f) → live (step ∷ h) ≡ live h → Heeds l step h
       → ((f : FlowId) → (pauses f (step ∷ h) ≡ pauses f h) × (resumes f (step ∷ h) ≡ resumes f h)) → ((f : FlowId) → risen l f step h ≡ 0) → ((f : FlowId) → drained l f step h ≡ 0)
       → CountsGo l t u t u conns conns' flows flows step [] h
   quiet_go writes stays ways living turned quiet rise drain = record {
@@ -51,14 +48,14 @@ module _ {l : LimitKeys} {t u : Option ℕ} (conns conns' : PagedMap Conn) (flow
 
 -- of which nothing changed
 pub idle_go : {l : LimitKeys} {t u : Option ℕ} → (conns : PagedMap Conn) (flows : Flows) (step : WayStep) (h : WayHistory) → Counts l t u conns flows h
-    → ((f : FlowId) → is_there flows f ≡ true → WayStays step h f) → live (step ∷ h) ≡ live h → BeforeTurn (CountsItsSources (tape_setup l)) step h
+    → ((f : FlowId) → is_there flows f ≡ true → WayStays step h f) → live (step ∷ h) ≡ live h → Heeds l step h
     → ((f : FlowId) → (pauses f (step ∷ h) ≡ pauses f h) × (resumes f (step ∷ h) ≡ resumes f h)) → ((f : FlowId) → risen l f step h ≡ 0) → ((f : FlowId) → drained l f step h ≡ 0)
     → CountsGo l t u t u conns conns flows flows step [] h
 idle_go {l} conns flows step h c ways living turned quiet rise drain = quiet_go conns conns flows step h c (above_same l conns) (same_above conns) ways living turned quiet rise drain
 
 -- the flows go on, and the gates stay
 pub gates_go : {l : LimitKeys} {t u : Option ℕ} → (conns : PagedMap Conn) (old new : Flows) (step : WayStep) (h : WayHistory) → Counts l t u conns old h → FlowsGo old new → ((x : ℕ) → is_live_in new x ≡ is_live_in old x) → new.gates ≡ old.gates → IsSound new
-    → ((f : FlowId) → is_there new f ≡ true → WayStays step h f) → live (step ∷ h) ≡ live h → BeforeTurn (CountsItsSources (tape_setup l)) step h
+    → ((f : FlowId) → is_there new f ≡ true → WayStays step h f) → live (step ∷ h) ≡ live h → Heeds l step h
     → ((f : FlowId) → (pauses f (step ∷ h) ≡ pauses f h) × (resumes f (step ∷ h) ≡ resumes f h)) → ((f : FlowId) → risen l f step h ≡ 0) → ((f : FlowId) → drained l f step h ≡ 0)
     → CountsGo l t u t u conns conns old new step [] h
 gates_go {l} {t} {u} conns old new step h c go same gates sound ways living turned quiet rise drain = record {

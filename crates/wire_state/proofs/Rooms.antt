@@ -1,12 +1,13 @@
 -- How much goes out at once.
+use Rattle.h2_frames.specs.Head.{data_head}
 use Rattle.h2_windows.specs.SendWindow.{Sending}
 use Rattle.flow_rules.specs.Narrowed.{octets_of}
 use Rattle.proxy_config.specs.declared.config.LimitKeys.{LimitKeys}
 use Rattle.std.proofs.Common.{ap, arith, subst, ◌∙◌}
 use Rattle.std.proofs.lemmas.Int.{ints}
-use Rattle.std.proofs.lemmas.List.{length-append}
+use Rattle.std.proofs.lemmas.List.{length-append, length-take}
 use Rattle.std.specs.FinMap.{get}
-use Rattle.std.specs.Prelude.{IfSome, IsSome, IsSomeAnd, List, None, Option, Some, false, length, negsuc, option_map, pos, unwrap_or, ℕ, ℤ, ◌+◌, ◌<◌, ◌≡◌, ◌≤ℤ◌, ◌≤◌}
+use Rattle.std.specs.Prelude.{IfSome, IsSome, IsSomeAnd, List, None, Option, Some, false, length, negsuc, option_map, pos, take, unwrap_or, Bool, ℕ, ℤ, ◌++◌, ◌+◌, ◌<◌, ◌≡◌, ◌≤ℤ◌, ◌≤◌}
 use Rattle.wire_outlet.proofs.Ready.{appended}
 use Rattle.wire_outlet.specs.Outgoing.{Outgoing}
 use Rattle.wire_state.specs.Sound.{IsKept, unit_of}
@@ -41,6 +42,14 @@ body_kept limits old new octets n kept low few grown added =
     let len : length new.octets ≡ length old.write.octets + length octets = ap length added.octets ∙ length-append old.write.octets octets in
     let fits : length octets ≤ unit_of limits = grind (arith, len, grown, few) in
     record { limit = added.limit ∙ kept.limit; write = appended (unit_of limits) octets old.write new kept.write low fits added; waiting = kept.waiting }
+
+-- a DATA frame that made it longer by its head and its payload carries no more than was held
+pub carries_held : (stream n : ℕ) (last : Bool) (held : List ℕ) (old new : Buffer) → length new.octets ≡ length old.octets + (9 + n)
+    → AppendsOctets old new (data_head stream n last ++ take n held) → n ≤ length held
+carries_held stream n last held old new grown added =
+    let len : length new.octets ≡ length old.octets + (9 + length (take n held)) =
+    cc (ap length added.octets, length-append old.octets (data_head stream n last ++ take n held), length-append (data_head stream n last) (take n held)) in
+    omega (arith, grown, len, length-take n held)
 
 -- what holds of a flow that is there
 pub of_some : {A : Type 0} {P : A → Type 0} (o : Option A) → IsSome o → IfSome o P → (a : A) × P a

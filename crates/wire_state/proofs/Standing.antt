@@ -26,6 +26,7 @@ use Rattle.wire_state.proofs.Marked.{marks_go}
 use Rattle.wire_state.proofs.Sending.{IsStill, fronts_still, still_loses, unborn_still}
 use Rattle.wire_state.specs.Limits.{HasShape, OutFits}
 use Rattle.wire_state.specs.Marks.{is_opened}
+use Rattle.wire_state.specs.Taking.{TakesWhatLies}
 use Rattle.wire_state.specs.Ways.{WayHistory, WayStep, stages_passed, stream_to, world_setup}
 use Rattle.wire_state.specs.Worlds.{EndsAre, FlowIs, Stands, has_conn, is_shut, left_by, octets_of}
 use Rattle.wire_state.specs.declared.conn.Conn.{Conn}
@@ -118,9 +119,10 @@ pub record KeepsShut (step : WayStep) (h : WayHistory) : Type 0 where
   pub closed : (c : ℕ) → was_closed c (step ∷ h) ≡ was_closed c h
   pub come : (c : ℕ) → has (connections world_setup (step ∷ h)) c ≡ false → has (connections world_setup h) c ≡ false
 
--- what it makes of the write buffers
+-- what it makes of the write buffers, and that it takes no octets that aren't there
 pub record Writes (change : ℕ → List ℕ → List ℕ) (step : WayStep) (h : WayHistory) : Type 0 where
   pub outs : (c : ℕ) → out world_setup c (step ∷ h) ≡ change c (out world_setup c h)
+  pub taken : TakesWhatLies step h
 
 -- a flow of which nothing moves
 pub flow_still : {l : LimitKeys} → (f : FlowId) (h k : WayHistory) → IsStill f h k → (flow : Flow) → FlowIs l f h flow → FlowIs l f k flow
@@ -154,6 +156,7 @@ wrote {l} change step h old new flows links w k m c room s = record {
   come = λ d e. let never = s.come d (m.come d e) in (c.there d ∙ never.0, m.closed d ∙ never.1);
   unborn = unborn_still flows flows h (step ∷ h) refl (λ f none. none) (λ f none. (k.came f, k.went f)) s.unborn;
   fronts = fronts_still step h k.came k.went s.fronts;
+  taking = (w.taken, s.taking);
   fits = let fit = fits_now h s.fits in
       (record { flows = λ f. still_fits f h (step ∷ h) (step_still step h k f) (fit.flows f); outs = outs_fit l old new h (step ∷ h) s.writes now room fit.outs }, s.fits);
   marks = marks_go flows flows links links h (step ∷ h) refl (λ x. refl) k.began k.opened s.marks;
@@ -174,6 +177,7 @@ conns_go old new flows links h c s = record {
   come = λ d e. let never = s.come d e in (c.there d ∙ never.0, never.1);
   unborn = s.unborn;
   fronts = s.fronts;
+  taking = s.taking;
   fits = s.fits;
   marks = s.marks;
 }
@@ -191,7 +195,7 @@ module _ (h : WayHistory) where
   -- octets go into a write buffer
   module _ (c : ℕ) (octets : List ℕ) where
     pub head_writes : (s : ℕ) → Writes (at_one c (λ xs. xs ++ octets)) (Noted (note.Head c s octets)) h
-    head_writes s = record { outs = λ d. more_is (c == d) (out world_setup d h) octets }
+    head_writes s = record { outs = λ d. more_is (c == d) (out world_setup d h) octets; taken = tt }
 
     pub head_flows : (s : ℕ) → KeepsFlows (Noted (note.Head c s octets)) h
     head_flows s = record { places = λ f p. refl; stages = λ f. refl; stream = λ f. refl; came = λ f. refl; went = λ f. refl; began = refl; opened = λ x. refl }
@@ -200,7 +204,7 @@ module _ (h : WayHistory) where
     head_shut s = record { closed = λ d. refl; come = λ d e. e }
 
     pub answer_writes : Writes (at_one c (λ xs. xs ++ octets)) (Noted (note.Answer c octets)) h
-    answer_writes = record { outs = λ d. more_is (c == d) (out world_setup d h) octets }
+    answer_writes = record { outs = λ d. more_is (c == d) (out world_setup d h) octets; taken = tt }
 
     pub answer_flows : KeepsFlows (Noted (note.Answer c octets)) h
     answer_flows = record { places = λ f p. refl; stages = λ f. refl; stream = λ f. refl; came = λ f. refl; went = λ f. refl; began = refl; opened = λ x. refl }
@@ -210,7 +214,7 @@ module _ (h : WayHistory) where
 
   module _ (c s n : ℕ) where
     pub credit_writes : Writes (at_one c (λ xs. xs ++ window_update s n)) (Noted (note.Credit c s n)) h
-    credit_writes = record { outs = λ d. more_is (c == d) (out world_setup d h) (window_update s n) }
+    credit_writes = record { outs = λ d. more_is (c == d) (out world_setup d h) (window_update s n); taken = tt }
 
     pub credit_flows : KeepsFlows (Noted (note.Credit c s n)) h
     credit_flows = record { places = λ f p. refl; stages = λ f. refl; stream = λ f. refl; came = λ f. refl; went = λ f. refl; began = refl; opened = λ x. refl }
@@ -220,8 +224,8 @@ module _ (h : WayHistory) where
 
   -- octets leave one
   module _ (c n : ℕ) where
-    pub out_writes : Writes (at_one c (drop n)) (Noted (note.Out c n)) h
-    out_writes = record { outs = λ d. less_is (c == d) n (out world_setup d h) }
+    pub out_writes : n ≤ length (out world_setup c h) → Writes (at_one c (drop n)) (Noted (note.Out c n)) h
+    out_writes few = record { outs = λ d. less_is (c == d) n (out world_setup d h); taken = few }
 
     pub out_flows : KeepsFlows (Noted (note.Out c n)) h
     out_flows = record { places = λ f p. refl; stages = λ f. refl; stream = λ f. refl; came = λ f. refl; went = λ f. refl; began = refl; opened = λ x. refl }
@@ -232,7 +236,7 @@ module _ (h : WayHistory) where
   -- nothing moves
   module _ (f : FlowId) (b : BufferId) where
     pub pause_writes : Writes same_octets (Noted (note.Pause f b)) h
-    pause_writes = record { outs = λ d. refl }
+    pause_writes = record { outs = λ d. refl; taken = tt }
 
     pub pause_flows : KeepsFlows (Noted (note.Pause f b)) h
     pause_flows = record { places = λ f p. refl; stages = λ f. refl; stream = λ f. refl; came = λ f. refl; went = λ f. refl; began = refl; opened = λ x. refl }
@@ -241,7 +245,7 @@ module _ (h : WayHistory) where
     pause_shut = record { closed = λ d. refl; come = λ d e. e }
 
     pub resume_writes : Writes same_octets (Noted (note.Resume f b)) h
-    resume_writes = record { outs = λ d. refl }
+    resume_writes = record { outs = λ d. refl; taken = tt }
 
     pub resume_flows : KeepsFlows (Noted (note.Resume f b)) h
     resume_flows = record { places = λ f p. refl; stages = λ f. refl; stream = λ f. refl; came = λ f. refl; went = λ f. refl; began = refl; opened = λ x. refl }
@@ -288,6 +292,7 @@ closes {l} c code why h old new flows links links' w same known s = record {
   );
   unborn = unborn_still flows flows h (Noted (note.Close c code why) ∷ h) refl (λ f none. none) (λ f none. (refl, refl)) s.unborn;
   fronts = fronts_still (Noted (note.Close c code why)) h (λ f. refl) (λ f. refl) s.fronts;
+  taking = (tt, s.taking);
   fits = let fit = fits_now h s.fits in (
     record {
       flows = λ f. still_fits f h (Noted (note.Close c code why) ∷ h) (record { places = λ p. refl; stages = refl; came = refl; went = refl }) (fit.flows f);

@@ -1,7 +1,7 @@
 -- A step of a flow that moved octets, as the world has it.
-use Rattle.exchange_core.specs.Flow.{Flow, last_place}
+use Rattle.exchange_core.specs.Flow.{Flow, last_place, octets_in}
 use Rattle.exchange_core.specs.Effects.{moved}
-use Rattle.exchange_core.specs.Moves.{next_step, stepped}
+use Rattle.exchange_core.specs.Moves.{is_free, may_release, next_step, stepped}
 use Rattle.exchange_core.specs.declared.step.Step.{Step}
 use Rattle.exchange_core.specs.declared.step.Step.TheVariants as step
 use Rattle.filter_chain.specs.Chain.{above_at}
@@ -18,10 +18,10 @@ use Rattle.flow_notes.specs.declared.notes.Note.{Note}
 use Rattle.flow_notes.specs.declared.notes.Note.TheVariants as note
 use Rattle.paged_map.specs.PagedMap.{PagedMap}
 use Rattle.std.specs.Option.{option_map_or}
-use Rattle.std.specs.Prelude.{Bool, IsSome, List, None, Option, Some, false, if◌then◌else◌, is_some, not, slice_get, true, ℕ, ◌&&◌, ◌+◌, ◌-◌, ◌<◌, ◌∷◌, ◌≡◌, ◌≤◌}
+use Rattle.std.specs.Prelude.{Bool, IsSome, List, None, Option, Some, false, if◌then◌else◌, is_some, length, min, not, slice_get, true, ℕ, ◌&&◌, ◌+◌, ◌-◌, ◌<◌, ◌∷◌, ◌≡◌, ◌≤◌}
 use Rattle.tape_laws.specs.History.{Noted}
 use Rattle.wire_flows.proofs.Crossings.{high_of, low_of}
-use Rattle.wire_flows.proofs.Freed.{found_at, free_is}
+use Rattle.wire_flows.proofs.Freed.{found_at, free_is, release_most}
 use Rattle.wire_flows.proofs.Stepping.{still_stays}
 use Rattle.wire_flows.proofs.Steps.{goes_of}
 use Rattle.wire_flows.specs.Flows.{Flows, IsThere, flow_in, goes_to}
@@ -47,6 +47,9 @@ pub record IsStep (f : FlowId) (board : Board) (to : Option ℕ) (flow : Flow) (
   pub at_next : slice_get flow.chain.places m.place ≡ Some next
   pub after_it : stepped board to flow ≡ moved m.place m.n flow
   pub before_last : m.place < last_place flow
+  pub few : m.n ≤ length (octets_in flow m.place)
+  pub free : is_free board to flow m.place ≡ true
+  pub all : m.n ≡ may_release board flow m.place
   -- whether the buffer that the octets came to rose, and the one that they left drained
   pub rose_is : is_some m.rose ≡ (not (above_at flow.chain (m.place + 1)) && above_at (moved m.place m.n flow).chain (m.place + 1))
   pub drained_is : m.drained ≡ (if above_at flow.chain m.place && not (above_at (moved m.place m.n flow).chain m.place) then Some (buffer.Stage f m.place) else None)
@@ -57,6 +60,9 @@ step_of board to f flow m some e = by_step (next_step board to flow) refl e
   where
     within : (p l : ℕ) → p ≤ l - 1 → 0 < l → p < l
     within p l a b = omega (arith, a, b)
+
+    few : (at_place p many n : ℕ) → at_place ≡ p → many ≡ n → n ≡ may_release board flow p → may_release board flow p ≤ min flow.chain.quantum (length (octets_in flow p)) → many ≤ length (octets_in flow at_place)
+    few at_place p many n place number is most = subst (λ (q : ℕ). many ≤ length (octets_in flow q)) (sym place) (omega (arith, number, is, most))
 
     some_if : (b : Bool) (x : BufferId) → is_some (if b then Some x else None) ≡ b
     some_if true x = refl
@@ -77,6 +83,9 @@ step_of board to f flow m some e = by_step (next_step board to flow) refl e
           at_next = ap (λ q. slice_get flow.chain.places q) place_is ∙ here.1;
           after_it = g.after ∙ sym ((λ i. moved (place_is i) (number_is i) flow));
           before_last = subst (λ (q : ℕ). q < last_place flow) (sym place_is) (within p (last_place flow) (free_is board to flow (last_place flow - 1) p g.free).within some);
+          few = few m.place p m.n n place_is number_is g.is (release_most board flow p);
+          all = number_is ∙ (g.is ∙ ap (may_release board flow) (sym place_is));
+          free = subst (λ (q : ℕ). is_free board to flow q ≡ true) (sym place_is) (free_is board to flow (last_place flow - 1) p g.free).free;
           rose_is = ap is_some rose_named ∙ (some_if (is_high shifted.to) (buffer_at f flow (p + 1)) ∙ (ap (λ (v : Shifted). is_high v.to) g.crossed
               ∙ (high_of (above_at flow.chain (p + 1)) (above_at (moved p n flow).chain (p + 1)) ∙ sym (λ i. not (above_at flow.chain (place_is i + 1)) && above_at (moved (place_is i) (number_is i) flow).chain (place_is i + 1)))));
           drained_is = drained_named ∙ (ap (λ (b : Bool). if b then Some (buffer.Stage f p) else None) (ap (λ (v : Shifted). is_low v.from) g.crossed ∙ low_of (above_at flow.chain p) (above_at (moved p n flow).chain p))
@@ -121,7 +130,7 @@ module _ (f : FlowId) (old new : Flows) (o : Outcome) (is : o ≡ option_map_or 
 
   pub move_stands : {l : LimitKeys} (m : Moved) → o ≡ outcome.Moved m → IsSound new → (conns : PagedMap Conn) (links : Links) (h : WayHistory) → Stands l conns old links h → Stands l conns new links (Noted (note.Move f m.place m.n) ∷ h)
   move_stands m e sound conns links h s = moves f m.place m.n h old new conns links (stepped old.gates (goes_to old f)) changes (there m e (flow_in old f) refl)
-      (λ flow found was. let k = made m e h flow found was in record { next = k.next; there = k.at_next; moves_so = k.after_it }) sound s
+      (λ flow found was. let k = made m e h flow found was in record { next = k.next; there = k.at_next; moves_so = k.after_it; few = k.few }) sound s
 
   -- nothing did
   pub still_told : {k : Config} {l : Footing} {t u : Option ℕ} → ((m : Moved) → o ≡ outcome.Moved m → ⊥) → IsSound new → KeepsWrites old new → ((b : BufferId) → pending_on new.gates b ≡ untold_by f o b (pending_on old.gates b)) → (conns : PagedMap Conn) (links : Links) (h : WayHistory) (g : ℕ → List ℕ) (start notes : List Note)

@@ -95,15 +95,15 @@ turn_shut k (event.Obey version pressures) h = record { closed = λ d. refl; com
 turn_shut k (event.Plain e) h = record { closed = λ d. refl; come = λ d e. e }
 
 turn_writes : (k : ℕ) (e : Event) → LosesNone e → (h : WayHistory) → Writes same_octets (Noted (note.Turn k e)) h
-turn_writes k (event.Accept c) l h = record { outs = λ d. refl }
-turn_writes k (event.Join c cluster) l h = record { outs = λ d. refl }
-turn_writes k (event.Read c octets) l h = record { outs = λ d. refl }
+turn_writes k (event.Accept c) l h = record { outs = λ d. refl; taken = tt }
+turn_writes k (event.Join c cluster) l h = record { outs = λ d. refl; taken = tt }
+turn_writes k (event.Read c octets) l h = record { outs = λ d. refl; taken = tt }
 turn_writes k (event.Gone c) l h = absurd l
-turn_writes k (event.Room c n) l h = record { outs = λ d. refl }
-turn_writes k (event.Tick now) l h = record { outs = λ d. refl }
-turn_writes k (event.Post poster number job) l h = record { outs = λ d. refl }
-turn_writes k (event.Obey version pressures) l h = record { outs = λ d. refl }
-turn_writes k (event.Plain e) l h = record { outs = λ d. refl }
+turn_writes k (event.Room c n) l h = record { outs = λ d. refl; taken = tt }
+turn_writes k (event.Tick now) l h = record { outs = λ d. refl; taken = tt }
+turn_writes k (event.Post poster number job) l h = record { outs = λ d. refl; taken = tt }
+turn_writes k (event.Obey version pressures) l h = record { outs = λ d. refl; taken = tt }
+turn_writes k (event.Plain e) l h = record { outs = λ d. refl; taken = tt }
 
 -- the loss of a connection that wasn't closed
 lost_writes : (k c : ℕ) (h : WayHistory) → was_closed c h ≡ false → Writes same_octets (Noted (note.Turn k (event.Gone c))) h
@@ -111,6 +111,7 @@ lost_writes k c h e = record {
   outs = λ d. by_case (c == d)
       (λ same. ap (λ b. if b then [] else out world_setup d h) (ap (λ b. b && was_closed d h) same ∙ (ap (λ v. was_closed v h) (sym (is_number c d same)) ∙ e)))
       (λ other. ap (λ b. if b && was_closed d h then [] else out world_setup d h) other);
+  taken = tt;
 }
 
 -- ---- counts

@@ -29,8 +29,7 @@ use Rattle.std.specs.Option.{option_and_then, option_map_or}
 use Rattle.std.specs.Prelude.{Bool, Err, IfOk, IfSome, IsSome, List, MatchOption, None, Ok, Option, Result, Some, [], drop, false, if◌then◌else◌, is_some, length, not, take, true, ℕ, ◌&&◌, ◌++◌, ◌+◌, ◌<◌, ◌==◌, ◌∷◌, ◌≡◌, ◌≤◌}
 use Rattle.tape_laws.specs.Flows.{request}
 use Rattle.tape_laws.specs.Dispatches.{live}
-use Rattle.tape_laws.specs.Headline.{CountsItsSources}
-use Rattle.tape_laws.specs.History.{BeforeTurn, Noted}
+use Rattle.tape_laws.specs.History.{Noted}
 use Rattle.tape_laws.specs.Pauses.{pauses, resumes}
 use Rattle.tape_laws.specs.Watermark.{above, drains_at}
 use Rattle.tape_laws.specs.World.{last_place, out, window_update}
@@ -54,7 +53,7 @@ use Rattle.wire_state.proofs.Givens.{stream_given}
 use Rattle.wire_state.proofs.Goings.{KeepsLeft, above_through, config_told, conn_keeps, footing_kept, gates_stand, links_kept, owes_by, rest_of, told_at}
 use Rattle.wire_state.proofs.Held.{listed_keeps}
 use Rattle.wire_state.proofs.Standing.{ConnsAre, KeepsFlows, KeepsShut, Writes, answer_flows, answer_shut, answer_writes, at_one, conns_go, conns_written, credit_flows, credit_shut, credit_writes, head_flows, head_shut, head_writes, one_room, same_octets, wrote}
-use Rattle.wire_state.specs.Counts.{Counts, Fills, IsCounted, is_above_at}
+use Rattle.wire_state.specs.Counts.{Counts, Fills, Heeds, IsCounted, is_above_at}
 use Rattle.wire_state.specs.Limits.{OutFits}
 use Rattle.wire_state.specs.Marks.{AreWays, footing_of}
 use Rattle.wire_state.specs.Sound.{AreKept, IsKept, unit_of}
@@ -125,7 +124,7 @@ module _ (n : ℕ) (old new : WireCore) (v w : Conn) (found : value_at n old.con
   note_written : (g : List ℕ → List ℕ) (m : Note) → KeepsLeft (Noted m ∷ []) → ((h : WayHistory) → AreWays old.config h → AreWays old.config (Noted m ∷ h)) → w.outlet.write.octets ≡ g v.outlet.write.octets → Room
       → ((h : WayHistory) → Writes (at_one n g) (Noted m) h) → ((h : WayHistory) → KeepsFlows (Noted m) h) → ((h : WayHistory) → KeepsShut (Noted m) h)
       → ((h : WayHistory) → fed_by (tape_setup old.config.limits) (Noted m) h ≡ Some (buffer.Write n)) → ((h : WayHistory) (f : FlowId) → conn_to f (Noted m ∷ h) ≡ conn_to f h) → ((f : FlowId) → spares {Mark = Way} f (Noted m) ≡ true)
-      → ((h : WayHistory) → live (Noted m ∷ h) ≡ live h) → ((h : WayHistory) → BeforeTurn (CountsItsSources (tape_setup old.config.limits)) (Noted m) h)
+      → ((h : WayHistory) → live (Noted m ∷ h) ≡ live h) → ((h : WayHistory) → Heeds old.config.limits (Noted m) h)
       → ((h : WayHistory) (f : FlowId) → (pauses f (Noted m ∷ h) ≡ pauses f h) × (resumes f (Noted m ∷ h) ≡ resumes f h)) → ((h : WayHistory) (f : FlowId) → drained old.config.limits f (Noted m) h ≡ 0)
       → Owes (m ∷ held) old new
   note_written g m left ways e room outs flows shut fed conn spared living turned quiet drop = subst (λ (ns : List Note). Owes (m ∷ ns) old new) (nobody held)
@@ -242,7 +241,7 @@ stream_known f links h k ends is = at f.back (ends_of f.exchange links) (ends f.
 -- the octets of a DATA frame went from a flow's send buffer into the write buffer
 module _ (n : ℕ) (old new : WireCore) (v w : Conn) (found : value_at n old.conns ≡ Some v) (written : WritesThrough n old.conns w new.conns) (opened : w.open ≡ v.open) (rest : rest_of new ≡ rest_of old)
     (room : OutFits old.config.limits v.outlet.write.octets → OutFits old.config.limits w.outlet.write.octets) (limit : v.outlet.write.limit ≡ old.config.limits.write_buffer)
-    (f : FlowId) (s : ℕ) (framed : Framed) (flow : Flow) (on : stream_in old.links f ≡ Some s) (there : flow_in old.flows f ≡ Some flow)
+    (f : FlowId) (s : ℕ) (framed : Framed) (flow : Flow) (on : stream_in old.links f ≡ Some s) (there : flow_in old.flows f ≡ Some flow) (few : framed.n ≤ length (send flow))
     (octets : w.outlet.write.octets ≡ v.outlet.write.octets ++ (data_head s framed.n framed.last ++ take framed.n (send flow))) (change : ChangesFlow f (body_framed framed.n framed.last) old.flows.exchanges new.flows.exchanges)
     (fills : Fills n framed.rose v.outlet.write w.outlet.write old.flows new.flows) (drains : framed.drained ≡ (is_send_above old.flows.exchanges f && not (is_send_above new.flows.exchanges f))) where
   abbrev step : WayStep
@@ -250,7 +249,7 @@ module _ (n : ℕ) (old new : WireCore) (v w : Conn) (found : value_at n old.con
 
   frame_stands : (h : WayHistory) → Stands old.config.limits old.conns old.flows old.links h → Stands old.config.limits new.conns new.flows new.links (step ∷ h)
   frame_stands h stands = links_kept old new rest (step ∷ h)
-      (frames n f framed.n framed.last h old.conns new.conns old.flows new.flows old.links s flow (stream_known f old.links h s stands.ends on) there change
+      (frames n f framed.n framed.last h old.conns new.conns old.flows new.flows old.links s flow (stream_known f old.links h s stands.ends on) there few change
       (conns_written n old.conns new.conns v w found written (λ xs. xs ++ (data_head s framed.n framed.last ++ take framed.n (send flow))) octets opened) (one_room old.config.limits n old.conns new.conns v w found written room) stands)
 
   told_hold : (b : Bool) → AreHolds (told_of b f)

@@ -5,22 +5,24 @@ use Rattle.filter_chain.specs.Place.{Place, is_source, kind_of}
 use Rattle.flow_gate.specs.Board.{lows, pending_on}
 use Rattle.flow_rules.specs.declared.ids.BufferId.{BufferId}
 use Rattle.flow_rules.specs.declared.ids.BufferId.TheVariants as buffer
+use Rattle.flow_notes.specs.declared.notes.Note.TheVariants as note
 use Rattle.flow_rules.specs.declared.ids.FlowId.{FlowId}
 use Rattle.paged_map.specs.PagedMap.{PagedMap, value_at}
 use Rattle.proxy_config.specs.declared.config.LimitKeys.{LimitKeys}
 use Rattle.std.specs.Option.{option_map, option_map_or}
-use Rattle.std.specs.Prelude.{Bool, IfSome, IsSome, List, Option, Some, [], false, if◌then◌else◌, is_some, length, true, ℕ, ◌+◌, ◌<◌, ◌≡◌, ◌⊎◌}
+use Rattle.std.specs.Prelude.{Bool, IfSome, IsSome, List, Option, Some, [], false, if◌then◌else◌, is_some, length, min, true, zero, ℕ, ◌+◌, ◌<◌, ◌≡◌, ◌⊎◌}
 use Rattle.tape_laws.specs.Dispatches.{has, live}
 use Rattle.tape_laws.specs.Headline.{CountsItsSources}
-use Rattle.tape_laws.specs.History.{BeforeTurn, EachFollows}
-use Rattle.tape_laws.specs.Pauses.{pauses, resumes}
+use Rattle.tape_laws.specs.History.{EachFollows, Noted}
+use Rattle.tape_laws.specs.Pauses.{count, pauses, resumes}
 use Rattle.tape_laws.specs.Sources.{disabled}
 use Rattle.tape_laws.specs.Watermark.{above}
+use Rattle.tape_laws.specs.World.{place}
 use Rattle.wire_flows.specs.Flows.{Flows, flow_in, goes_to, is_live_in}
 use Rattle.wire_flows.specs.Sound.{IsSound, buffer_of}
 use Rattle.wire_flows.specs.Writes.{ChangesWrite, KeepsLows, KeepsOtherLows, Write, lowered, raised, watchers_on, write_at}
 use Rattle.wire_state.specs.Tapes.{conn_to, tape_setup}
-use Rattle.wire_state.specs.Ways.{WayHistory}
+use Rattle.wire_state.specs.Ways.{WayHistory, WayStep, world_setup}
 use Rattle.wire_state.specs.declared.conn.Conn.{Conn}
 use Rattle.wm_buffer.specs.Buffer.{Buffer}
 use Rattle.wm_buffer.specs.Watermark.{above_after}
@@ -55,6 +57,21 @@ MayLag conn exchange (buffer.Write c) = conn ≡ Some c
 MayLag conn exchange (buffer.Stage f p) = exchange ≡ Some f.exchange
 MayLag conn exchange b = ⊥
 
+-- octets leave a receive buffer only while the count of its flow is 0, and then all that are there, up to a quantum
+pub record LeavesFirst (l : LimitKeys) (f : FlowId) (n : ℕ) (past : WayHistory) : Type 0 where
+  pub readable : count f past ≡ 0
+  pub all : n ≡ min l.quantum (length (place world_setup f 0 past))
+
+-- Before each dispatch each flow's count was the number of its sources that were above, and what left a receive buffer did so by the
+-- count.
+abbrev pub Heeds : LimitKeys → WayStep → WayHistory → Type 0
+Heeds l (Noted (note.Turn k e)) past = CountsItsSources (tape_setup l) past
+Heeds l (Noted (note.Move f zero n)) past = LeavesFirst l f n past
+Heeds l step past = Unit {0}
+
+abbrev pub EachHeeds : LimitKeys → WayHistory → Type 0
+EachHeeds l h = EachFollows (Heeds l) h
+
 pub record Counts (l : LimitKeys) (conn exchange : Option ℕ) (conns : PagedMap Conn) (flows : Flows) (h : WayHistory) : Type 0 where
   pub sound : IsSound flows
   pub each : (f : FlowId) → IfSome (flow_in flows f) (IsCounted l flows f h)
@@ -66,8 +83,7 @@ pub record Counts (l : LimitKeys) (conn exchange : Option ℕ) (conns : PagedMap
   pub marks : (c : ℕ) → holds_back c flows ≡ is_above_at c conns
   pub known : (c : ℕ) → is_some (value_at c conns) ≡ true → IsSome (write_at c flows)
   pub told : (b : BufferId) → (pending_on flows.gates b ≡ []) ⊎ MayLag conn exchange b
-  -- before each dispatch each flow's count was the number of its sources that were above
-  pub turns : EachFollows (BeforeTurn (CountsItsSources (tape_setup l))) h
+  pub turns : EachHeeds l h
 
 -- octets went into a write buffer that wasn't above, and it rose, or it didn't
 pub record Grows (is_risen : Bool) (old new : Buffer) : Type 0 where

@@ -7,6 +7,7 @@ pub mod Marks
 pub mod Noting
 pub mod Progress
 pub mod Sound
+pub mod Taking
 pub mod Tapes
 pub mod Ways
 pub mod Worlds

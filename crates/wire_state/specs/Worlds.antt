@@ -28,6 +28,7 @@ use Rattle.wire_state.specs.Counts.{Counts}
 use Rattle.wire_state.specs.Limits.{Fits, HasShape}
 use Rattle.wire_state.specs.Marks.{AreWays, Footing, MarksAre, NoneBegan, footing_of, rows_in}
 use Rattle.wire_state.specs.Noting.{answers_of, heads_of}
+use Rattle.wire_state.specs.Taking.{EachTakesWhatLies}
 use Rattle.wire_state.specs.Ways.{WayHistory, WayStep, after, shown, stages_passed, stream_to, world_setup}
 use Rattle.wire_state.specs.declared.conn.Conn.{Conn}
 use Rattle.wire_state.specs.declared.wire_core.WireCore.{WireCore}
@@ -79,6 +80,7 @@ pub record Stands (l : LimitKeys) (conns : PagedMap Conn) (flows : Flows) (links
   -- no exchange has a number above the last that was given
   pub unborn : (f : FlowId) → flows.exchanges.last < f.exchange → IsUnborn f flows h
   pub fronts : SendsOn h
+  pub taking : EachTakesWhatLies h
   pub fits : AtEachMoment (Fits l) h
   pub marks : MarksAre flows links h
 

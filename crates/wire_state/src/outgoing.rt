@@ -284,6 +284,7 @@ impl Conn {
         ensures spent { IfOk result (λ framed. IfSome framed (λ f. self.new.windows.send.conn ≡ changed (Spend f.n) self.old.windows.send.conn)) }
         ensures go { IfOk result (λ framed. MatchOption framed (conn_go self.new + to_go flows.new ≤ conn_go self.old + to_go flows.old) (λ f. conn_go self.new + (to_go flows.new + 40) ≤ conn_go self.old + to_go flows.old)) }
         ensures octets { IfOk result (λ framed. MatchOption framed (self.new ≡ self.old) (λ f. IfSome (flow_in flows.old flow) (λ g. self.new.outlet.write.octets ≡ self.old.outlet.write.octets ++ (data_head stream f.n f.last ++ take f.n (send g))))) }
+        ensures within { IfOk result (λ framed. IfSome framed (λ f. IfSome (flow_in flows.old flow) (λ g. f.n ≤ length (send g)))) }
         ensures flows { IfOk result (λ framed. MatchOption framed (flows.new ≡ flows.old) (λ f. ChangesFlow flow (body_framed f.n f.last) flows.old.exchanges flows.new.exchanges)) }
         ensures fills { IfOk result (λ framed. IfSome framed (λ f. Fills number f.rose self.old.outlet.write self.new.outlet.write flows.old flows.new)) }
         ensures drained { IfOk result (λ framed. IfSome framed (λ f. f.drained ≡ (is_send_above flows.old.exchanges flow && not (is_send_above flows.new.exchanges flow)))) }

@@ -8,13 +8,14 @@ use Rattle.std.specs.Prelude.{List, [], ℕ, ◌++◌, ◌∷◌, ◌≡◌}
 use Rattle.tape_laws.specs.Headline.{Headline}
 use Rattle.tape_laws.specs.World.{gone}
 use Rattle.wire_state.proofs.Counted.{rests_headline}
+use Rattle.wire_state.specs.Counts.{EachHeeds}
 use Rattle.wire_state.specs.Marks.{AreWays}
 use Rattle.wire_state.specs.Noting.{Appends}
 use Rattle.wire_state.specs.Tapes.{tape_setup}
 use Rattle.wire_state.specs.Ways.{WayHistory, after, world_setup}
 use Rattle.wire_state.specs.Worlds.{IsFresh}
 use Rattle.worker_core.specs.Dispatching.{Tells}
-use Rattle.worker_core.specs.Sessions.{CarriesOut, GoesOn, PromisesAt, SameConfig, StandsAt, WaysAt, left_at}
+use Rattle.worker_core.specs.Sessions.{CarriesOut, GoesOn, KeepsTo, PromisesAt, SameConfig, StandsAt, WaysAt, left_at}
 use Rattle.worker_core.specs.declared.worker.Kind.{Kind}
 use Rattle.worker_core.specs.declared.worker.Kind.TheVariants as kind
 
@@ -64,3 +65,8 @@ pub stands_promise : (old new : Kind) (h : WayHistory) → SameConfig old new �
 stands_promise (kind.Wire old) (kind.Wire new) h same stands = subst (λ (v : Config). Headline (tape_setup v.limits) h) same (rests_headline new.core.conns new.core.flows new.core.links h stands)
 stands_promise (kind.Wire old) (kind.Plain new) h same stands = absurd same
 stands_promise (kind.Plain old) new h same stands = absurd same
+
+pub stands_keep : (old new : Kind) (h : WayHistory) → SameConfig old new → StandsAt new h → KeepsTo old h
+stands_keep (kind.Wire old) (kind.Wire new) h same stands = (stands.stands.taking, subst (λ (v : Config). EachHeeds v.limits h) same stands.counts.turns)
+stands_keep (kind.Wire old) (kind.Plain new) h same stands = absurd same
+stands_keep (kind.Plain old) new h same stands = absurd same

@@ -9,8 +9,10 @@ use Rattle.std.specs.Prelude.{Bool, List, None, Option, [], false, not, true, �
 use Rattle.tape_laws.specs.Headline.{Headline}
 use Rattle.tape_laws.specs.World.{gone}
 use Rattle.tape_laws.specs.declared.PlainLimits.{PlainLimits}
+use Rattle.wire_state.specs.Counts.{EachHeeds}
 use Rattle.wire_state.specs.Marks.{AreWays}
 use Rattle.wire_state.specs.Sound.{IsSound, is_open_at}
+use Rattle.wire_state.specs.Taking.{EachTakesWhatLies}
 use Rattle.wire_state.specs.Tapes.{tape_setup}
 use Rattle.wire_state.specs.Ways.{WayHistory, WayStep, after, shown, world_setup}
 use Rattle.wire_state.specs.Worlds.{Rests as RestsAt, left_after}
@@ -98,6 +100,11 @@ StandsAt (kind.Wire session) h = RestsAt session.core.config.limits session.core
 abbrev pub PromisesAt : Kind → WayHistory → Type 0
 PromisesAt (kind.Plain core) h = ⊥
 PromisesAt (kind.Wire session) h = Headline (tape_setup session.core.config.limits) h
+
+-- each note so far took no more octets than lay there, and heeded the counts
+abbrev pub KeepsTo : Kind → WayHistory → Type 0
+KeepsTo (kind.Plain core) h = ⊥
+KeepsTo (kind.Wire session) h = EachTakesWhatLies h × EachHeeds session.core.config.limits h
 
 -- the configuration is as it was
 abbrev pub SameConfig : Kind → Kind → Type 0

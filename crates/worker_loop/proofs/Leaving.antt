@@ -7,7 +7,7 @@ use Rattle.std.specs.Option.{option_map}
 use Rattle.std.specs.Prelude.{List, Some, [], if◌then◌else◌, take, ℕ, ◌++◌, ◌==◌, ◌∷◌, ◌≡◌, ◌≤◌}
 use Rattle.tape_laws.specs.World.{gone}
 use Rattle.wire_state.specs.Ways.{WayHistory, after, world_setup}
-use Rattle.worker_core.proofs.Turning.{stands_promise}
+use Rattle.worker_core.proofs.Turning.{stands_keep, stands_promise}
 use Rattle.worker_core.specs.Sessions.{RestsWire, StandsAt}
 use Rattle.worker_core.specs.declared.worker.Kind.{Kind}
 use Rattle.worker_loop.proofs.Coming.{up_more}
@@ -149,6 +149,7 @@ module _ (names : List (List ℕ)) (end : End) (old new : Sides) (k0 k' : Kind) 
           stands = ends_stand names (after s.steps h) end e.kind k' e.mid w s.stands e.ends;
           ways = s.ways;
           promises = stands_promise k0 e.kind (after s.steps h) s.under s.stands;
+          keeps = stands_keep k0 e.kind (after s.steps h) s.under s.stands;
           came = up_more e.mid.seen.greatest w.seen.greatest (after s.steps h) (ends_rise names end e.kind k' e.mid w e.ends) s.up;
           takes = λ before told at_old at_new. takes_left notes h (after s.steps h) before told hands s.left at_old at_new;
         };

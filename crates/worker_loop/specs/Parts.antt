@@ -12,7 +12,7 @@ use Rattle.tape_laws.specs.Connections.{connections}
 use Rattle.tape_laws.specs.Dispatches.{has}
 use Rattle.tape_laws.specs.World.{gone}
 use Rattle.wire_state.specs.Ways.{WayHistory, WayStep, after, shown, world_setup}
-use Rattle.worker_core.specs.Sessions.{CarriesOut, PromisesAt, StandsAt, WaysAt, version_of}
+use Rattle.worker_core.specs.Sessions.{CarriesOut, KeepsTo, PromisesAt, StandsAt, WaysAt, version_of}
 use Rattle.worker_core.specs.declared.worker.Kind.{Kind}
 use Rattle.worker_loop.specs.Carrying.{post_event}
 use Rattle.worker_loop.specs.Places.{event_line}
@@ -135,13 +135,14 @@ pub record TakesWhatLeft (end : Ended) (notes : List Note) (h now : WayHistory) 
   pub left : (c : ℕ) → gone world_setup c now ≡ gone world_setup c h ++ taken_of c kept
 
 -- the notes go on with a history for which the core stood, its marks are tied as those before were, and it has all that a tape of whole
--- dispatches promises
+-- dispatches promises: no note takes more octets than lie there, and none leave a receive buffer but at count 0
 pub record GoesOnIn (end : Ended) (k new : Kind) (old_seen new_seen : Seen) (notes : List Note) (h : WayHistory) : Type 0 where
   pub steps : List WayStep
   pub is : notes ≡ shown steps
   pub stands : EndsStanding end new (after steps h)
   pub ways : WaysAt k h → WaysAt k (after steps h)
   pub promises : PromisesAt k (after steps h)
+  pub keeps : KeepsTo k (after steps h)
   pub came : CameUpTo new_seen.greatest (after steps h)
   pub takes : (before told : List WireStep) → old_seen.steps ≡ Some before → new_seen.steps ≡ Some (before ++ told) → TakesWhatLeft end notes h (after steps h) told
 

@@ -12,4 +12,4 @@ returns-in-Some-clause-go c =
     match_ok c.write_body.result (λ a. omega (arith, k, a)) (λ b. omega (arith, k, b)) c.write_body.ensures.go
 
 pub returns-in-Some-clause-octets : goal.returns-in-Some-clause-octets
-returns-in-Some-clause-octets c = body_written_on c.write_body.result c.args.number c.args.stream c.args.flow c.args.core.now _ c.in-Some.conn.now c.write_body.new.self (sym c.in-Some.ensures.value) (c.get_mut.follows.holds c.write_body.new.self) c.write_body.ensures.open c.requires.sound.kept (c.write_body.ensures.kept c.args.core.now.config.limits refl) refl c.requires.stream c.requires.there c.write_body.ensures.octets c.write_body.ensures.flows c.write_body.ensures.fills c.write_body.ensures.drained
+returns-in-Some-clause-octets c = body_written_on c.write_body.result c.args.number c.args.stream c.args.flow c.args.core.now _ c.in-Some.conn.now c.write_body.new.self (sym c.in-Some.ensures.value) (c.get_mut.follows.holds c.write_body.new.self) c.write_body.ensures.open c.requires.sound.kept (c.write_body.ensures.kept c.args.core.now.config.limits refl) refl c.requires.stream c.requires.there c.write_body.ensures.octets c.write_body.ensures.within c.write_body.ensures.flows c.write_body.ensures.fills c.write_body.ensures.drained

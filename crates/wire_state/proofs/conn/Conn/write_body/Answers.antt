@@ -8,7 +8,8 @@ use Rattle.std.specs.Prelude.{false, is_some, length, not, pos, take, ℤ, ◌&&
 use Rattle.wire_flows.specs.Flows.{flow_in}
 use Rattle.wire_outlet.specs.Outgoing.{Outgoing}
 use Rattle.wire_state.proofs.Grown.{framed_fills}
-use Rattle.wire_state.proofs.Rooms.{body_kept, of_some, within_both, within_quantum}
+use Rattle.wire_state.proofs.Rooms.{body_kept, carries_held, of_some, within_both, within_quantum}
+use Rattle.wire_state.proofs.Standing.{if_some}
 use Rattle.wire_state.proofs.conn.Conn.write_body.Goals as goal
 use Rattle.wire_state.specs.Counts.{Fills}
 use Rattle.wire_state.specs.Sound.{IsKept}
@@ -58,3 +59,10 @@ returns-clause-fills c =
     let rose : c.in-Some.framed.rose ≡ (not c.args.self.now.outlet.write.above && c.frame_body.new.out.above) = subst (λ (u : Buffer). c.in-Some.framed.rose ≡ (not u.above && c.frame_body.new.out.above)) c.write_mut-out.ensures.value r in
     subst (λ (o : Outgoing). Fills c.args.number c.in-Some.framed.rose c.args.self.now.outlet.write o.write c.args.flows.now c.frame_body.new.self) (sym (ap (λ (v : Conn). v.outlet) c.framed.ensures.rest))
     (framed_fills c.args.number c.in-Some.framed.rose c.args.self.now.outlet.write c.frame_body.new.out octets c.args.flows.now c.frame_body.new.self low added rose w c.in_ok-framed.ensures.lows c.in_ok-framed.ensures.sound)
+
+pub returns-clause-within : goal.returns-clause-within
+returns-clause-within c =
+    let n = c.in-Some.framed.n in
+    let g = rw c.in-Some.is at c.in_ok-framed.ensures.grown in
+    let a = rw c.in-Some.is at c.in_ok-framed.ensures.appends in
+    if_some (flow_in c.args.flows.now c.args.flow) (λ flow added. carries_held c.args.stream n c.in-Some.framed.last (send flow) _ c.frame_body.new.out g added) a
