@@ -83,6 +83,12 @@ class Proxy:
                 total += int(f.read().split()[0])
         return total / 1e9
 
+    @staticmethod
+    def only_the_owner_reads(journal):
+        """A journal holds all that anybody sent, credentials included."""
+        mode = os.stat(journal).st_mode & 0o777
+        assert mode == 0o600, f'{journal} has the mode {mode:o}'
+
     def end(self):
         alive = self.process.poll() is None
         self.process.kill()
@@ -91,6 +97,7 @@ class Proxy:
         assert alive, f'it had ended: {self.process.returncode} {self.said[-300:]}'
         if self.journal:
             for k in range(1, self.workers + 1):
+                self.only_the_owner_reads(f'{self.journal}.{k}')
                 with open(f'{self.journal}.{k}', 'rb') as f:
                     text = f.read()
                 if len(text) > 67_000_000:

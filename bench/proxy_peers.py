@@ -93,11 +93,18 @@ class Proxy:
                 found[words[-1]] = int(words[3])
         return found
 
+    @staticmethod
+    def only_the_owner_reads(journal):
+        """A journal holds all that anybody sent, credentials included."""
+        mode = os.stat(journal).st_mode & 0o777
+        assert mode == 0o600, f'{journal} has the mode {mode:o}'
+
     def end(self):
         self.process.kill()
         self.process.wait()
         self.said = self.process.stderr.read()
         if self.journal:
+            self.only_the_owner_reads(self.journal + '.1')
             with open(self.journal + '.1', 'rb') as f:
                 text = f.read()
             if len(text) > 67_000_000:
