@@ -1,4 +1,4 @@
-use Rattle.std.proofs.Common.{◌≡◌, [], sym, ap, ◌∙◌, subst}
+use Rattle.std.proofs.Common.{◌≡◌, [], sym, ◌∙◌}
 use Rattle.std.specs.Prelude.{None, Option, Some, MatchOption, IsSomeAnd, ⊤, true, is_some, ℕ, ◌<◌, ◌≤◌}
 use Rattle.paged_map.specs.PagedMap.{value_at}
 use Rattle.wire_timers.proofs.Placing.{none-at}
