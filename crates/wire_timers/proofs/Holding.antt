@@ -125,6 +125,7 @@ module _ (key : Armed → ℕ) where
 -- the first of them is found, and has fired
 pub record FirstSpent (find : Key → Option Ptr) (t : Timing) (f : Fired) (rest : List Fired) : Type 0 where
   pub timer : Ptr
+  pub known : f.kind < 3
   pub found : find (f.kind, f.id) ≡ Some timer
   pub fired : contains_id timer t.fired ≡ true
   pub left : (new : Key → Option Ptr) (after : Timing) → TakesOut (f.kind, f.id) find new → after ≡ record t { fired = without_id timer t.fired } → Spent new after rest
@@ -148,6 +149,7 @@ first-of find t f rest (d ∷ due) told names h =
     let at : find k ≡ Some d.timer = h.same k ∙ ap (λ b. cond b (Some d.timer) (look k (due ++ t.armed))) (same_refl k) in
     record {
       timer = d.timer;
+      known = subst (λ (j : Key). j.0 < 3) (sym key-is) h.known.0;
       found = ap find key-is ∙ at;
       fired = ap (contains_id d.timer) names ∙ ap (λ b. cond b true (contains_id d.timer (names_of due))) (same_ptr_refl d.timer);
       left = λ new after out is.

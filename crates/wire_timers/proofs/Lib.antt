@@ -1,5 +1,5 @@
 mod Keys
-mod First
+mod Placing
 mod Finding
 mod Naming
 mod Holding

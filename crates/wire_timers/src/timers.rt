@@ -13,7 +13,6 @@ use io_ports::NoMemory;
 use proxy_config::Config;
 use scaled_timer::{TimerKind, Timers};
 use std::alloc::Global;
-use std::collections::HashMap;
 use std::marker::Model;
 
 /// Timers of three kinds: `Route` and `StreamIdle` for exchanges, and `ConnectionIdle` for connections. At most one of each
@@ -33,16 +32,15 @@ pub struct WireTimers {
 }
 
 impl Model for WireTimers {
-    ghost use Rattle.std.specs.HashMap.{get};
     ghost use Rattle.wire_timers.specs.Armed.{Timeouts};
 
     ghost Value = { Timeouts };
 
-    ghost use Rattle.wire_timers.specs.Held.{Held, seen, same_key};
+    ghost use Rattle.wire_timers.specs.Held.{Held, find_in, seen};
 
     ghost view = { λ w. seen w.timers };
 
-    ghost invariant = { λ w. Held w.kinds (get same_key w.tokens) w.timers };
+    ghost invariant = { λ w. Held w.kinds (find_in w.tokens) w.timers };
 }
 
 impl WireTimers {
@@ -57,7 +55,7 @@ impl WireTimers {
         Ok(WireTimers {
             kinds,
             timers: Timers::new(alloc, &kinds)?,
-            tokens: HashMap::new(alloc),
+            tokens: Tokens::new(alloc),
         })
     }
 
@@ -73,12 +71,10 @@ impl WireTimers {
         if self.kinds[number as usize].max == 0 {
             return Ok(());
         }
-        self.tokens.reserve(1)?;
+        self.tokens.reserve(number, id)?;
         let timer = self.timers.arm(number, id, now)?;
-        match self.tokens.insert((number, id), timer) {
-            Ok(None) => {}
-            Ok(Some(before)) => give_back(&mut self.timers, before),
-            Err(_) => unreachable!(),
+        if let Some(before) = self.tokens.put(number, id, timer) {
+            give_back(&mut self.timers, before);
         }
         Ok(())
     }
@@ -87,7 +83,7 @@ impl WireTimers {
     pub fn disarm(&mut self, kind: FireKind, id: u64)
         ensures { self.new ≡ disarmed kind id self.old }
     {
-        if let Some(timer) = self.tokens.remove(&(number(kind), id)) {
+        if let Some(timer) = self.tokens.take(number(kind), id) {
             give_back(&mut self.timers, timer);
         }
     }
@@ -96,7 +92,7 @@ impl WireTimers {
     pub fn is_armed(&self, kind: FireKind, id: u64) -> bool
         ensures { result ≡ is_armed kind id self.now }
     {
-        self.tokens.contains_key(&(number(kind), id))
+        self.tokens.has(number(kind), id)
     }
 
     /// The exchange is gone, and both of its timers with it.
