@@ -1,13 +1,13 @@
 use Rattle.wire_state.proofs.Keeping.{kept_changed}
 use Rattle.wire_state.proofs.Soundness.{conns_sound, gates_sound}
 use Rattle.flow_notes.specs.declared.events.Event.TheVariants as event
-use Rattle.std.proofs.Common.{ap, refl, sym}
-use Rattle.std.specs.Prelude.{◌++◌}
+use Rattle.std.proofs.Common.{ap, refl, subst, sym}
+use Rattle.std.specs.Prelude.{Option, is_some, ℕ, ◌++◌}
 use Rattle.wire_turns.proofs.events.leave_at.Goals as goal
 use Rattle.wire_state.proofs.Goings.{told_at}
-use Rattle.wire_state.proofs.Left.{none_left, out_left}
+use Rattle.wire_state.proofs.Left.{left_where, none_left}
 use Rattle.wire_state.proofs.Wrote.{limit_of}
-use Rattle.wire_state.specs.Worlds.{left_after, outs_of}
+use Rattle.wire_state.specs.Worlds.{Leaves, left_after, outs_of}
 use Rattle.wire_state.specs.declared.conn.Conn.{Conn}
 
 pub returns-in-Some-clause-sound : goal.returns-in-Some-clause-sound
@@ -21,8 +21,11 @@ returns-in-Some-clause-sound c =
 pub returns-in-Some-clause-octets : goal.returns-in-Some-clause-octets
 returns-in-Some-clause-octets c =
     let k = c.args.core.now in
-    out_left c.args.number k _ c.in-Some.conn.now c.leave_write.new.self (sym c.in-Some.ensures.value) (c.get_mut.follows.holds c.leave_write.new.self) (ap (λ (v : Conn). v.open) c.leave_write.ensures.rest) refl
-    (limit_of c.args.number k.config.limits k.conns c.in-Some.conn.now (sym c.in-Some.ensures.value) c.requires.sound.kept) c.leave_write.ensures.frees c.args.n c.leave_write.result c.leave_write.ensures.count c.leave_write.ensures.octets
+    let w = c.leave_write.new.self in
+    subst (λ (o : Option ℕ). Leaves c.args.number c.args.n c.leave_write.result.0 o k _) (sym c.eased_at.ensures)
+    (left_where c.args.number k _ c.in-Some.conn.now w (sym c.in-Some.ensures.value) (c.get_mut.follows.holds w) (ap (λ (v : Conn). v.open) c.leave_write.ensures.rest) refl
+    (limit_of c.args.number k.config.limits k.conns c.in-Some.conn.now (sym c.in-Some.ensures.value) c.requires.sound.kept) c.leave_write.ensures.frees c.args.n c.leave_write.result.0 c.leave_write.ensures.count c.leave_write.ensures.octets
+    c.leave_write.result.1 (is_some w.draining) c.leave_write.ensures.drained)
 
 pub returns-in-None-clause-octets : goal.returns-in-None-clause-octets
 returns-in-None-clause-octets c = record {
