@@ -187,10 +187,13 @@ module _ (n : ℕ) (old new : WireCore) (v w : Conn) (found : value_at n old.con
   }
 
   -- where it drained, and perhaps else, somebody may still be to be told
-  pub left_where : (drained other : Bool) → drained ≡ (v.outlet.write.above && not w.outlet.write.above) → Leaves n most k (if drained || other then Some n else None) old new
-  left_where true other is = out_left
-  left_where false true is = out_left
-  left_where false false is = out_quiet (sym is)
+  pub left_where : (drained other : Bool) (told : Option ℕ) → drained ≡ (v.outlet.write.above && not w.outlet.write.above) → told ≡ (if drained || other then Some n else None) → Leaves n most k told old new
+  left_where drained other told is answer = subst (λ (o : Option ℕ). Leaves n most k o old new) (sym answer) (at drained other is)
+    where
+      at : (a b : Bool) → a ≡ (v.outlet.write.above && not w.outlet.write.above) → Leaves n most k (if a || b then Some n else None) old new
+      at true b e = out_left
+      at false true e = out_left
+      at false false e = out_quiet (sym e)
 
 -- somebody may be to be told, and nobody is
 pub may_lag : {l : LimitKeys} {conns : PagedMap Conn} {flows : Flows} {h : WayHistory} → (n : ℕ) → Counts l None None conns flows h → Counts l (Some n) None conns flows h
