@@ -16,7 +16,7 @@ use Rattle.std.proofs.Common.{ap, arith, inl, refl, subst, sym, ◌∙◌}
 use Rattle.std.proofs.lemmas.List.{append-nil, length-drop, take_min}
 use Rattle.paged_map.specs.PagedMap.{PagedMap, WritesThrough, value_at}
 use Rattle.std.specs.Option.{option_map, option_map_or}
-use Rattle.std.specs.Prelude.{Bool, IsSome, List, None, Option, Some, [], drop, false, if◌then◌else◌, is_some, length, min, not, suc, take, true, zero, ℕ, ◌&&◌, ◌++◌, ◌==◌, ◌∷◌, ◌≡◌, ◌≤◌}
+use Rattle.std.specs.Prelude.{Bool, IsSome, List, None, Option, Some, [], drop, false, if◌then◌else◌, is_some, length, min, not, suc, take, true, zero, ℕ, ◌&&◌, ◌++◌, ◌==◌, ◌||◌, ◌∷◌, ◌≡◌, ◌≤◌}
 use Rattle.tape_laws.specs.History.{Noted}
 use Rattle.tape_laws.specs.Watermark.{above}
 use Rattle.tape_laws.specs.World.{out}
@@ -32,6 +32,7 @@ use Rattle.wire_state.proofs.Watching.{lows_same}
 use Rattle.wire_state.proofs.Fitting.{less_out}
 use Rattle.wire_state.proofs.Goings.{above_through, config_told, footing_kept, gates_stand, links_kept, rest_of, told_as}
 use Rattle.wire_state.proofs.Held.{is_number}
+use Rattle.wire_state.proofs.Telling.{all_told}
 use Rattle.wire_state.proofs.Standing.{ConnsAre, at_one, conns_go, conns_written, out_flows, out_shut, one_room, out_writes, same_octets, wrote}
 use Rattle.wire_state.specs.Counts.{Counts, Frees, eased, is_above_at}
 use Rattle.wire_state.specs.Limits.{OutFits}
@@ -76,6 +77,27 @@ module _ (n : ℕ) (old new : WireCore) (v w : Conn) (found : value_at n old.con
       (frees_go n old.conns new.conns v w found written (v.outlet.write.above && not w.outlet.write.above) old.flows new.flows frees limit h c old.links new.links out_step s (out_stands h s) (less h) refl
       (λ f. record { stages = refl; conn = refl; spared = refl }) refl tt (λ f. (refl, refl)) (λ f. refl)) s (out_stands h s) c
 
+  -- it didn't drain: nobody is to be told
+  module _ (calm : (v.outlet.write.above && not w.outlet.write.above) ≡ false) (h : WayHistory) (c : Counts old.config.limits None None old.conns old.flows h) where
+    write_same_now : (d : ℕ) → write_at d new.flows ≡ write_at d old.flows
+    write_same_now d = frees.writes.writes d ∙ by_case (n == d)
+        (λ same. ap (λ b. if b then option_map (eased (v.outlet.write.above && not w.outlet.write.above) (watchers_on n old.flows)) (write_at n old.flows) else write_at d old.flows) same
+        ∙ (ap (λ b. option_map (eased b (watchers_on n old.flows)) (write_at n old.flows)) calm ∙ (unchanged (write_at n old.flows) ∙ ap (λ q. write_at q old.flows) (is_number n d same))))
+        (λ other. ap (λ b. if b then option_map (eased (v.outlet.write.above && not w.outlet.write.above) (watchers_on n old.flows)) (write_at n old.flows) else write_at d old.flows) other)
+      where
+        unchanged : (o : Option Write) → option_map (eased false (watchers_on n old.flows)) o ≡ o
+        unchanged None = refl
+        unchanged (Some x) = refl
+
+    lows_same_now : (b : BufferId) → pending_on new.flows.gates b ≡ []
+    lows_same_now b = by_case (same_buffer (buffer.Write n) b)
+        (λ same. ap (pending_on new.flows.gates) (sym (same_buffer_exact (buffer.Write n) b same))
+        ∙ (sym (lows_seen n new.flows (subst IsSome (sym (write_same_now n)) (c.known n (ap is_some found)))) ∙ (ap (λ (o : Option Write). option_map_or (λ x. x.lows) o []) (write_same_now n) ∙ (lows_seen n old.flows (c.known n (ap is_some found)) ∙ none_before (buffer.Write n)))))
+        (λ other. frees.lows.lows b other ∙ none_before b)
+      where
+        none_before : (b : BufferId) → pending_on old.flows.gates b ≡ []
+        none_before b = none_lags (pending_on old.flows.gates b) b (c.told b)
+
   -- none left
   module _ (zero_is : k ≡ 0) (h : WayHistory) (s : Stands old.config.limits old.conns old.flows old.links h) (c : Counts old.config.limits None None old.conns old.flows h) where
     same_octets_now : w.outlet.write.octets ≡ v.outlet.write.octets
@@ -96,31 +118,12 @@ module _ (n : ℕ) (old new : WireCore) (v w : Conn) (found : value_at n old.con
         but_not true = refl
         but_not false = refl
 
-    write_same_now : (d : ℕ) → write_at d new.flows ≡ write_at d old.flows
-    write_same_now d = frees.writes.writes d ∙ by_case (n == d)
-        (λ same. ap (λ b. if b then option_map (eased (v.outlet.write.above && not w.outlet.write.above) (watchers_on n old.flows)) (write_at n old.flows) else write_at d old.flows) same
-        ∙ (ap (λ b. option_map (eased b (watchers_on n old.flows)) (write_at n old.flows)) undrained ∙ (unchanged (write_at n old.flows) ∙ ap (λ q. write_at q old.flows) (is_number n d same))))
-        (λ other. ap (λ b. if b then option_map (eased (v.outlet.write.above && not w.outlet.write.above) (watchers_on n old.flows)) (write_at n old.flows) else write_at d old.flows) other)
-      where
-        unchanged : (o : Option Write) → option_map (eased false (watchers_on n old.flows)) o ≡ o
-        unchanged None = refl
-        unchanged (Some x) = refl
-
-    lows_same_now : (b : BufferId) → pending_on new.flows.gates b ≡ []
-    lows_same_now b = by_case (same_buffer (buffer.Write n) b)
-        (λ same. ap (pending_on new.flows.gates) (sym (same_buffer_exact (buffer.Write n) b same))
-        ∙ (sym (lows_seen n new.flows (subst IsSome (sym (write_same_now n)) (c.known n (ap is_some found)))) ∙ (ap (λ (o : Option Write). option_map_or (λ x. x.lows) o []) (write_same_now n) ∙ (lows_seen n old.flows (c.known n (ap is_some found)) ∙ none_before (buffer.Write n)))))
-        (λ other. frees.lows.lows b other ∙ none_before b)
-      where
-        none_before : (b : BufferId) → pending_on old.flows.gates b ≡ []
-        none_before b = none_lags (pending_on old.flows.gates b) b (c.told b)
-
     zero_counts : Counts old.config.limits (Some n) None new.conns new.flows h
     zero_counts = counts_gates {t = None} {u = None} {t' = Some n} {u' = None} new.conns old.flows new.flows h (exchanges_keep old.flows new.flows frees.rest) (frees.sound c.sound) (record {
-      low = λ f there. lows_same f old.flows.gates new.flows.gates (watched f) (λ b. lows_same_now b ∙ sym (none_lags (pending_on old.flows.gates b) b (c.told b)));
-      marks = λ d. ap (λ (o : Option Write). option_map_or (λ x. x.above) o false) (write_same_now d) ∙ (c.marks d ∙ sym (stays.above_stays d));
-      known = λ d there. subst IsSome (sym (write_same_now d)) (c.known d (stays.came d there));
-      told = λ b. inl (lows_same_now b);
+      low = λ f there. lows_same f old.flows.gates new.flows.gates (watched f) (λ b. lows_same_now undrained h c b ∙ sym (none_lags (pending_on old.flows.gates b) b (c.told b)));
+      marks = λ d. ap (λ (o : Option Write). option_map_or (λ x. x.above) o false) (write_same_now undrained h c d) ∙ (c.marks d ∙ sym (stays.above_stays d));
+      known = λ d there. subst IsSome (sym (write_same_now undrained h c d)) (c.known d (stays.came d there));
+      told = λ b. inl (lows_same_now undrained h c b);
     }) (counts_conns old.conns new.conns old.flows h stays c)
       where
         stays : AboveStays old.conns new.conns
@@ -141,7 +144,7 @@ module _ (n : ℕ) (old new : WireCore) (v w : Conn) (found : value_at n old.con
           let c = conns_written n old.conns new.conns v w found written (λ xs. xs) e opened in
           record { octets = λ d. c.octets d ∙ same_one (n == d) (octets_of d old.conns); shut = c.shut; there = c.there }
 
-  pub out_left : Leaves n most k old new
+  pub out_left : Leaves n most k (Some n) old new
   out_left = record { goes = at (k == 0) refl }
     where
       here : (c : ℕ) → (n == c) ≡ true → octets_of c old.conns ≡ v.outlet.write.octets
@@ -184,6 +187,20 @@ module _ (n : ℕ) (old new : WireCore) (v w : Conn) (found : value_at n old.con
           (λ j f s is c. (λ i. is c i ++ (if n == c then take k (sym (s.writes c) i) else [])) ∙ ap (λ xs. f c ++ xs) (took c))
           (record { ways = λ j i w. w; rows = refl }) out_stands out_counts h g start notes t)
 
+  out_quiet : (v.outlet.write.above && not w.outlet.write.above) ≡ false → Leaves n most k None old new
+  out_quiet calm = record {
+    goes = λ h g start notes t. all_told n new.conns new.flows new.links (lows_same_now calm (after t.steps h) t.counts (buffer.Write n)) h (left_after (event.Room n most) old.conns g) start _ (out_left.goes h g start notes t);
+  }
+
+  -- where it drained, and perhaps else, somebody may still be to be told
+  pub left_where : (drained other : Bool) (told : Option ℕ) → drained ≡ (v.outlet.write.above && not w.outlet.write.above) → told ≡ (if drained || other then Some n else None) → Leaves n most k told old new
+  left_where drained other told is answer = subst (λ (o : Option ℕ). Leaves n most k o old new) (sym answer) (at drained other is)
+    where
+      at : (a b : Bool) → a ≡ (v.outlet.write.above && not w.outlet.write.above) → Leaves n most k (if a || b then Some n else None) old new
+      at true b e = out_left
+      at false true e = out_left
+      at false false e = out_quiet (sym e)
+
 -- somebody may be to be told, and nobody is
 pub may_lag : {l : LimitKeys} {conns : PagedMap Conn} {flows : Flows} {h : WayHistory} → (n : ℕ) → Counts l None None conns flows h → Counts l (Some n) None conns flows h
 may_lag {flows = flows} n c = record {
@@ -199,13 +216,13 @@ may_lag {flows = flows} n c = record {
 }
 
 -- no connection is there, and none left
-pub none_left : (n most : ℕ) (core : WireCore) → value_at n core.conns ≡ None → Leaves n most 0 core core
+pub none_left : (n most : ℕ) (core : WireCore) → value_at n core.conns ≡ None → Leaves n most 0 None core core
 none_left n most core gone_ = record {
   goes = λ h g start notes t. record {
     steps = t.steps;
     is = append-nil notes ∙ t.is;
     stands = t.stands;
-    counts = may_lag n t.counts;
+    counts = t.counts;
     under = t.under;
     ways = t.ways;
     rows = t.rows;

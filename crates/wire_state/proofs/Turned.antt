@@ -14,7 +14,7 @@ use Rattle.std.proofs.lemmas.List.{append-nil}
 use Rattle.std.proofs.lemmas.List.Folds.{list_any-append}
 use Rattle.paged_map.specs.PagedMap.{PagedMap, value_at}
 use Rattle.std.specs.Option.{option_map_or}
-use Rattle.std.specs.Prelude.{Bool, List, None, Ok, OnOk, Option, Result, Some, [], false, if◌then◌else◌, is_some, length, not, true, ℕ, ◌&&◌, ◌++◌, ◌==◌, ◌||◌, ◌∷◌, ◌≡◌}
+use Rattle.std.specs.Prelude.{Bool, Err, IfOk, IsOk, List, None, Ok, OnOk, Option, Result, Some, [], false, if◌then◌else◌, is_some, length, not, true, ℕ, ◌&&◌, ◌++◌, ◌==◌, ◌||◌, ◌∷◌, ◌≡◌}
 use Rattle.tape_laws.specs.Connections.{connections, was_closed}
 use Rattle.tape_laws.specs.Dispatches.{has}
 use Rattle.tape_laws.specs.History.{Noted}
@@ -34,7 +34,7 @@ use Rattle.wire_state.specs.Counts.{Counts}
 use Rattle.wire_state.specs.Marks.{Footing, NoneBegan, NoneYet, footing_of}
 use Rattle.wire_state.specs.Tapes.{tape_setup}
 use Rattle.wire_state.specs.Ways.{WayHistory, WayStep, world_setup}
-use Rattle.wire_state.specs.Worlds.{Comes, Goes, IsFresh, KeepsOk, Rests, Stands, Told, ToldBy, Turns, eased_by, left_after}
+use Rattle.wire_state.specs.Worlds.{Comes, Goes, IsFresh, KeepsOk, Rests, Stands, Told, ToldBy, Turns, TurnsTo, eased_by, left_after}
 use Rattle.wire_state.specs.declared.conn.Conn.{Conn}
 use Rattle.wire_state.specs.declared.wire_core.WireCore.{WireCore}
 use Rattle.wm_buffer.specs.Watermark.{above_after}
@@ -243,13 +243,29 @@ module _ {A E : Type 0} (r : Result A E) (e f : Event) (is : e ≡ f) (l : Loses
 pub turns_same : {A E : Type 0} (a : A) (e f : Event) → e ≡ f → LosesNone f → TakesNone f → (core : WireCore) (noted : List Note) → Turns {A = A} {E = E} (Ok a) e core noted core noted
 turns_same {A = A} {E = E} a e f is l m core noted = turns_kept {A = A} {E = E} (Ok a) e f is l m core core noted (record { goes = λ h g start notes t. t })
 
+-- nobody is to be told of a drain
+pub turns_none : {A E F : Type 0} (r : Result A E) (q : Result (Option ℕ) F) (e : Event) (old new : WireCore) (noted now : List Note) → Turns r e old noted new now → eased_by e ≡ None → OnOk q (IsOk r) → IfOk q (λ conn. conn ≡ None) → TurnsTo q e old noted new now
+turns_none r (Err x) e old new noted now turns none ok is = record { goes = λ h g before k n s left fresh began. tt }
+turns_none (Err x) (Ok conn) e old new noted now turns none ok is = absurd (cc ok)
+turns_none (Ok a) (Ok conn) e old new noted now turns none ok is = record {
+  goes = λ h g before k n s left fresh began.
+      subst (λ (o : Option ℕ). Told old.config o None h (left_after e old.conns g) before new now) (none ∙ sym is) (turns.goes h g before k n s left fresh began);
+}
+
+-- those of this connection may be
+pub turns_some : {A E F : Type 0} (a : A) (c : ℕ) (e : Event) (old new : WireCore) (noted now : List Note) → Turns {A = A} {E = E} (Ok a) e old noted new now → eased_by e ≡ Some c → TurnsTo {E = F} (Ok (Some c)) e old noted new now
+turns_some a c e old new noted now turns some = record {
+  goes = λ h g before k n s left fresh began.
+      subst (λ (o : Option ℕ). Told old.config o None h (left_after e old.conns g) before new now) some (turns.goes h g before k n s left fresh began);
+}
+
 -- from a core that has the same configuration, connections, flows and links
-pub turns_from : {A E : Type 0} (r : Result A E) (e : Event) (old mid new : WireCore) (noted now : List Note) → mid.config ≡ old.config → mid.conns ≡ old.conns → mid.flows ≡ old.flows → mid.links ≡ old.links → NoneBegan mid → Turns r e mid noted new now
+pub turns_from : {E : Type 0} (r : Result (Option ℕ) E) (e : Event) (old mid new : WireCore) (noted now : List Note) → mid.config ≡ old.config → mid.conns ≡ old.conns → mid.flows ≡ old.flows → mid.links ≡ old.links → NoneBegan mid → TurnsTo r e mid noted new now
     → (h : WayHistory) (g : ℕ → List ℕ) (before : List Note) (k : ℕ) → noted ≡ before ++ note.Turn k e ∷ [] → Rests old.config.limits old.conns old.flows old.links h → ((c : ℕ) → gone world_setup c h ≡ g c)
-    → IsFresh e h → OnOk r (Told old.config (eased_by e) None h (left_after e old.conns g) before new now)
+    → IsFresh e h → IfOk r (λ conn. Told old.config conn None h (left_after e old.conns g) before new now)
 turns_from r e old mid new noted now same c f l none turns h g before k n s left fresh =
-    subst (λ (v : Config). OnOk r (Told v (eased_by e) None h (left_after e old.conns g) before new now)) same
-    (subst (λ (v : PagedMap Conn). OnOk r (Told mid.config (eased_by e) None h (left_after e v g) before new now)) c
+    subst (λ (v : Config). IfOk r (λ conn. Told v conn None h (left_after e old.conns g) before new now)) same
+    (subst (λ (v : PagedMap Conn). IfOk r (λ conn. Told mid.config conn None h (left_after e v g) before new now)) c
     (turns.goes h g before k n
     (subst (λ (v : Config). Rests v.limits mid.conns mid.flows mid.links h) (sym same)
     (subst (λ (v : PagedMap Conn). Rests old.config.limits v mid.flows mid.links h) (sym c)

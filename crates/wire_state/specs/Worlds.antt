@@ -12,7 +12,7 @@ use Rattle.paged_map.specs.PagedMap.{PagedMap, value_at}
 use Rattle.proxy_config.specs.declared.config.Config.{Config}
 use Rattle.proxy_config.specs.declared.config.LimitKeys.{LimitKeys}
 use Rattle.std.specs.Option.{option_and_then, option_map_or}
-use Rattle.std.specs.Prelude.{Bool, IfSome, List, None, OnOk, Option, Result, Some, [], false, if◌then◌else◌, is_some, length, not, take, true, ℕ, ◌++◌, ◌<◌, ◌==◌, ◌∷◌, ◌≡◌}
+use Rattle.std.specs.Prelude.{Bool, IfOk, IfSome, List, None, OnOk, Option, Result, Some, [], false, if◌then◌else◌, is_some, length, not, take, true, ℕ, ◌++◌, ◌<◌, ◌==◌, ◌∷◌, ◌≡◌}
 use Rattle.tape_laws.specs.Connections.{connections, was_closed}
 use Rattle.tape_laws.specs.Dispatches.{has, started}
 use Rattle.tape_laws.specs.Flows.{request, response}
@@ -197,6 +197,12 @@ pub record Turns {A E : Type 0} (r : Result A E) (e : Event) (old : WireCore) (n
   pub goes : (h : WayHistory) (g : ℕ → List ℕ) (before : List Note) (k : ℕ) → noted ≡ before ++ note.Turn k e ∷ [] → Rests old.config.limits old.conns old.flows old.links h → ((c : ℕ) → gone world_setup c h ≡ g c)
       → IsFresh e h → NoneBegan old → OnOk r (Told old.config (eased_by e) None h (left_after e old.conns g) before new now)
 
+-- The same, where the answer is the connection whose write buffer may have drained, if there is one: of no other somebody may still be
+-- to be told.
+pub record TurnsTo {E : Type 0} (r : Result (Option ℕ) E) (e : Event) (old : WireCore) (noted : List Note) (new : WireCore) (now : List Note) : Type 0 where
+  pub goes : (h : WayHistory) (g : ℕ → List ℕ) (before : List Note) (k : ℕ) → noted ≡ before ++ note.Turn k e ∷ [] → Rests old.config.limits old.conns old.flows old.links h → ((c : ℕ) → gone world_setup c h ≡ g c)
+      → IsFresh e h → NoneBegan old → IfOk r (λ conn. Told old.config conn None h (left_after e old.conns g) before new now)
+
 -- All of a dispatch behind its turn note, from a core that may have the rows of the dispatch before: nobody is still to be told.
 pub record TurnsAnew {A E : Type 0} (r : Result A E) (e : Event) (old : WireCore) (noted : List Note) (new : WireCore) (now : List Note) : Type 0 where
   pub goes : (h : WayHistory) (g : ℕ → List ℕ) (before : List Note) (k : ℕ) → noted ≡ before ++ note.Turn k e ∷ [] → Rests old.config.limits old.conns old.flows old.links h → ((c : ℕ) → gone world_setup c h ≡ g c)
@@ -210,6 +216,7 @@ pub record Follows (old : WireCore) (before : List Note) (e : Event) (new : Wire
 pub record Comes {A E : Type 0} (r : Result A E) (c : ℕ) (old new : WireCore) : Type 0 where
   pub goes : {k : Config} {t u : Option ℕ} → (h : WayHistory) (g : ℕ → List ℕ) (start notes : List Note) (told : Told k t u h g start old notes) → has (connections world_setup (after told.steps h)) c ≡ true → was_closed c (after told.steps h) ≡ false → OnOk r (Told k t u h g start new notes)
 
--- Up to n octets left a connection's write buffer, k of them there were. Who is held back by it is still to be told where it drained.
-pub record Leaves (c n k : ℕ) (old new : WireCore) : Type 0 where
-  pub goes : {m : Config} → (h : WayHistory) (g : ℕ → List ℕ) (start notes : List Note) → Told m None None h g start old notes → Told m (Some c) None h (left_after (event.Room c n) old.conns g) start new (notes ++ outs_of c k)
+-- Up to n octets left a connection's write buffer, k of them there were. Who is held back by that of `conn` may still be to be told that
+-- it drained: of no other, and where there is none nobody.
+pub record Leaves (c n k : ℕ) (conn : Option ℕ) (old new : WireCore) : Type 0 where
+  pub goes : {m : Config} → (h : WayHistory) (g : ℕ → List ℕ) (start notes : List Note) → Told m None None h g start old notes → Told m conn None h (left_after (event.Room c n) old.conns g) start new (notes ++ outs_of c k)

@@ -305,32 +305,37 @@ impl Conn {
         Ok(Some(framed))
     }
 
-    /// Up to n octets left the write buffer of this connection, which has this number. Answers how many did. Where it drained, the
-    /// flows that go here are to be told.
-    pub fn leave_write(&mut self, flows: &mut WireFlows, number: u32, n: u32) -> u32
+    /// Up to n octets left the write buffer of this connection, which has this number. Answers how many did, and whether it
+    /// drained by that: then the flows that go here are to be told.
+    pub fn leave_write(&mut self, flows: &mut WireFlows, number: u32, n: u32) -> (u32, bool)
         ensures kept { (limits : Limits) → IsKept limits self.old.outlet → IsKept limits self.new.outlet }
         ensures rest { self.new ≡ record self.old { outlet = self.new.outlet } }
-        ensures count { result ≡ min n (length self.old.outlet.write.octets) }
-        ensures octets { self.new.outlet.write.octets ≡ drop result self.old.outlet.write.octets }
+        ensures count { result.0 ≡ min n (length self.old.outlet.write.octets) }
+        ensures drained { result.1 ≡ (self.old.outlet.write.above && not self.new.outlet.write.above) }
+        ensures octets { self.new.outlet.write.octets ≡ drop result.0 self.old.outlet.write.octets }
         ensures frees { Frees number (self.old.outlet.write.above && not self.new.outlet.write.above) self.old.outlet.write self.new.outlet.write flows.old flows.new }
     {
         let n = n.min(self.outlet.len());
         let crossed = self.outlet.leave(n);
-        mark_drained(flows, number, crossed);
-        n
+        let drained = mark_drained(flows, number, crossed);
+        (n, drained)
     }
 }
 
-// Where a write buffer drained, the flows that go to its connection are to be told.
-fn mark_drained(flows: &mut WireFlows, number: u32, crossed: Crossed)
+// Where a write buffer drained, the flows that go to its connection are to be told. The answer is whether it did.
+fn mark_drained(flows: &mut WireFlows, number: u32, crossed: Crossed) -> bool
+    ensures drained { result ≡ is_low crossed }
     ensures writes { ChangesWrite number (option_map (eased (is_low crossed) (watchers_on number flows.old)) (write_at number flows.old)) flows.old flows.new }
     ensures lows { KeepsOtherLows (BufferId.Write number) flows.old flows.new }
     ensures rest { flows.new.exchanges ≡ flows.old.exchanges }
     ensures sound { AreSoundFlows flows.old → AreSoundFlows flows.new }
 {
     match crossed {
-        Crossed::Low => flows.write_drained(number),
-        _ => {}
+        Crossed::Low => {
+            flows.write_drained(number);
+            true
+        }
+        _ => false,
     }
 }
 

@@ -45,6 +45,17 @@ impl Stirred {
         Ok(())
     }
 
+    /// Something changed at a connection that isn't draining, by which nothing more can be framed there, and at which nothing
+    /// could be before.
+    #[inline(always)]
+    pub fn add_calm(&mut self, conn: u32) -> Result<(), NoMemory>
+        ensures { length self.new.conns.items ≤ length self.old.conns.items + 1 }
+    {
+        self.put(conn)?;
+        self.calm.add(conn);
+        Ok(())
+    }
+
     // The connection is in the set from now on.
     #[inline(never)]
     fn put(&mut self, conn: u32) -> Result<(), NoMemory>

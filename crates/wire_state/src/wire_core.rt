@@ -157,6 +157,19 @@ impl WireCore {
         self.stirred.add(conn)
     }
 
+    /// Something changed in this dispatch at a connection that isn't draining, by which nothing more can be framed there, and at
+    /// which nothing could be before. The dispatch has changed nothing else there.
+    #[inline(always)]
+    pub fn stir_calm(&mut self, conn: u32) -> Result<(), NoMemory>
+        requires sound { IsSound self.old }
+        ensures sound { OnOk result (IsSound self.new) }
+        ensures go { OnOk result (to_go self.new ≤ to_go self.old + 1) }
+        ensures rest { self.new ≡ record self.old { stirred = self.new.stirred } }
+        ensures octets { Keeps self.old self.new }
+    {
+        self.stirred.add_calm(conn)
+    }
+
     /// The task on top, which frames the units of a connection, has found none that can be framed: it ends, and the connection
     /// isn't looked at again in this dispatch unless something changes there.
     pub fn give_up(&mut self, conn: u32)

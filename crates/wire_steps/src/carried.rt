@@ -33,8 +33,8 @@ fn work(core: &mut WireCore, event: &Event, notes: &mut Notes) -> Result<(), NoM
     ensures octets { TurnsAnew result event.now core.old notes.old core.new notes.new }
 {
     begin_rows(core);
-    take_event(core, event, notes)?;
-    settle(core, event, notes)?;
+    let eased = take_event(core, event, notes)?;
+    settle(core, eased, notes)?;
     sweep(core, notes)?;
     rest(core)
 }

@@ -5,10 +5,10 @@ ghost use Rattle.wire_state.specs.Agenda.{top_go};
 ghost use Rattle.wire_state.specs.Noting.{Appends};
 ghost use Rattle.wire_state.specs.Progress.{task_go, to_go};
 ghost use Rattle.wire_state.specs.Sound.{IsSound};
-ghost use Rattle.wire_state.specs.Worlds.{Goes, KeepsOk, TellsAll, eased_by};
+ghost use Rattle.wire_state.specs.Worlds.{Goes, KeepsOk, TellsAll};
 
 use crate::rounds::next_round;
-use flow_notes::{Event, Notes};
+use flow_notes::Notes;
 use io_ports::NoMemory;
 use wire_ends::{close_task, doom_task, end, losses};
 use wire_in::{read, waste};
@@ -16,28 +16,21 @@ use wire_out::{ask_drain, ask_run, drain, run, tell};
 use wire_state::{Task, WireCore};
 use wire_turns::{drains, fire, fires, resets, ticks};
 
-/// Small steps until nothing is under way and no connection has anything to do. Where the event may have eased a write buffer, the
-/// flows that go to its connection are told first.
-pub(crate) fn settle(core: &mut WireCore, event: &Event, notes: &mut Notes) -> Result<(), NoMemory>
+/// Small steps until nothing is under way and no connection has anything to do. Where the event may have eased the write buffer of
+/// a connection, the flows that go there are told first.
+pub(crate) fn settle(
+    core: &mut WireCore,
+    eased: Option<u32>,
+    notes: &mut Notes,
+) -> Result<(), NoMemory>
     requires sound { IsSound core.old }
     ensures sound { OnOk result (IsSound core.new) }
     ensures notes { Appends notes.old notes.new }
-    ensures octets { TellsAll (eased_by event.now) result core.old notes.old core.new notes.new }
+    ensures octets { TellsAll eased result core.old notes.old core.new notes.new }
 {
-    match eased_conn(event) {
+    match eased {
         Some(conn) => tell_all(core, conn, notes),
         None => go_to_rest(core, notes),
-    }
-}
-
-// The connection whose write buffer the event may have eased.
-fn eased_conn(event: &Event) -> Option<u32>
-    ensures { result ≡ eased_by event.now }
-{
-    match event {
-        Event::Room { conn, .. } => Some(*conn),
-        Event::Gone { conn } => Some(*conn),
-        _ => None,
     }
 }
 

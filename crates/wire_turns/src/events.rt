@@ -1,11 +1,11 @@
 // Events: what each does before anything is run.
 ghost use Rattle.flow_notes.specs.declared.events.Event.TheVariants as event;
-ghost use Rattle.std.specs.Option.{option_map_or};
-ghost use Rattle.std.specs.Prelude.{◌≡◌, ◌≤◌, ◌*◌, IfOk, OnOk, length, MatchOption, false, true};
+ghost use Rattle.std.specs.Option.{option_and_then, option_map_or};
+ghost use Rattle.std.specs.Prelude.{◌≡◌, ◌≤◌, ◌*◌, ◌||◌, if◌then◌else◌, IfOk, IsOk, OnOk, length, MatchOption, None, Some, false, is_some, true};
 ghost use Rattle.wire_links.specs.Links.{is_known};
 ghost use Rattle.wire_state.specs.Noting.{Appends};
 ghost use Rattle.wire_state.specs.Sound.{IsSound};
-ghost use Rattle.wire_state.specs.Worlds.{Comes, Goes, Keeps, KeepsOk, Leaves, Pays, Turns, has_conn, outs_of};
+ghost use Rattle.wire_state.specs.Worlds.{Comes, Goes, Keeps, KeepsOk, Leaves, Pays, Turns, TurnsTo, has_conn, outs_of};
 
 use flow_notes::{Cause, CloseCause, Event, FireKind, Job, Note, Notes};
 use io_ports::{NoMemory, Octets, PressureList};
@@ -37,28 +37,54 @@ const LAST_MOMENT: u64 = (1 << 60) - 1;
 /// How many exchanges a published state resets at most.
 const RESETS: u32 = 50;
 
-/// The event's own effect, with its notes; the turn note stands already.
-pub fn take_event(core: &mut WireCore, event: &Event, notes: &mut Notes) -> Result<(), NoMemory>
+/// The event's own effect, with its notes; the turn note stands already. The answer is the connection whose write buffer the event
+/// may have eased, if there is one: the flows that go there are to be told next.
+pub fn take_event(
+    core: &mut WireCore,
+    event: &Event,
+    notes: &mut Notes,
+) -> Result<Option<u32>, NoMemory>
     requires sound { IsSound core.old }
     ensures sound { OnOk result (IsSound core.new) }
     ensures notes { Appends notes.old notes.new }
-    ensures octets { Turns result event.now core.old notes.old core.new notes.new }
+    ensures octets { TurnsTo result event.now core.old notes.old core.new notes.new }
 {
     match event {
-        Event::Accept { conn } => accept(core, *conn, notes),
-        Event::Join { conn, cluster } => join(core, *conn, *cluster),
-        Event::Read { conn, octets } => read(core, *conn, octets),
-        Event::Gone { conn } => lose(core, *conn, notes),
+        Event::Accept { conn } => eases_none(accept(core, *conn, notes)),
+        Event::Join { conn, cluster } => eases_none(join(core, *conn, *cluster)),
+        Event::Read { conn, octets } => eases_none(read(core, *conn, octets)),
+        Event::Gone { conn } => gone(core, *conn, notes),
         Event::Room { conn, n } => room(core, *conn, *n, notes),
-        Event::Tick { now } => tick(core, *now),
+        Event::Tick { now } => eases_none(tick(core, *now)),
         Event::Post {
             poster,
             number,
             job,
-        } => post(core, *poster, *number, *job, notes),
-        Event::Obey { version, pressures } => obey(core, *version, pressures),
-        Event::Plain(_) => Ok(()),
+        } => eases_none(post(core, *poster, *number, *job, notes)),
+        Event::Obey { version, pressures } => eases_none(obey(core, *version, pressures)),
+        Event::Plain(_) => Ok(None),
     }
+}
+
+// What was done eases no write buffer.
+#[inline(always)]
+fn eases_none(done: Result<(), NoMemory>) -> Result<Option<u32>, NoMemory>
+    ensures done { OnOk result (IsOk done) }
+    ensures none { IfOk result (λ eased. eased ≡ None) }
+{
+    done?;
+    Ok(None)
+}
+
+// A connection is lost, and its write buffer eased by that.
+fn gone(core: &mut WireCore, number: u32, notes: &mut Notes) -> Result<Option<u32>, NoMemory>
+    requires sound { IsSound core.old }
+    ensures sound { OnOk result (IsSound core.new) }
+    ensures notes { Appends notes.old notes.new }
+    ensures octets { TurnsTo result (event.Gone number) core.old notes.old core.new notes.new }
+{
+    lose(core, number, notes)?;
+    Ok(Some(number))
 }
 
 // A client connection came, unless its number is taken.
@@ -195,28 +221,64 @@ fn read_at(core: &mut WireCore, number: u32, octets: &Octets) -> Result<bool, No
     }
 }
 
-// Up to n octets leave the write buffer. Who is to be told that it drained, and what may be framed then, comes next.
-fn room(core: &mut WireCore, number: u32, n: u32, notes: &mut Notes) -> Result<(), NoMemory>
+// Up to n octets leave the write buffer. Where that eases it, who is to be told that it drained, and what may be framed then, comes
+// next.
+fn room(
+    core: &mut WireCore,
+    number: u32,
+    n: u32,
+    notes: &mut Notes,
+) -> Result<Option<u32>, NoMemory>
     requires sound { IsSound core.old }
     ensures sound { OnOk result (IsSound core.new) }
     ensures notes { Appends notes.old notes.new }
-    ensures octets { Turns result (event.Room number n) core.old notes.old core.new notes.new }
+    ensures octets { TurnsTo result (event.Room number n) core.old notes.old core.new notes.new }
 {
-    let Some(n) = leave_at(core, number, n) else {
-        return Ok(());
+    let Some((n, eased)) = leave_at(core, number, n) else {
+        return Ok(None);
     };
-    core.stir(number)?;
-    note_out(notes, number, n)
+    stir_left(core, number, eased)?;
+    note_out(notes, number, n)?;
+    Ok(eased)
 }
 
-fn leave_at(core: &mut WireCore, number: u32, n: u32) -> Option<u32>
+// How many octets left, and the connection, where its write buffer was eased by that.
+fn leave_at(core: &mut WireCore, number: u32, n: u32) -> Option<(u32, Option<u32>)>
     requires sound { IsSound core.old }
     ensures sound { IsSound core.new }
-    ensures octets { Leaves number n (option_map_or (λ k. k) result 0) core.old core.new }
+    ensures octets { Leaves number n (option_map_or (λ left. left.0) result 0) (option_and_then (λ left. left.1) result) core.old core.new }
 {
     match core.conns.get_mut(&number) {
-        Some(conn) => Some(conn.leave_write(&mut core.flows, number, n)),
+        Some(conn) => {
+            let (n, drained) = conn.leave_write(&mut core.flows, number, n);
+            Some((n, eased_at(conn, number, drained)))
+        }
         None => None,
+    }
+}
+
+// The connection, where octets that left its write buffer eased it: it drained, or the connection is draining, and may be closed.
+#[inline(always)]
+fn eased_at(conn: &Conn, number: u32, drained: bool) -> Option<u32>
+    ensures { result ≡ (if drained || is_some conn.now.draining then Some number else None) }
+{
+    if drained || conn.draining.is_some() {
+        return Some(number);
+    }
+    None
+}
+
+// Octets left the write buffer of a connection. Before the event nothing could be framed there: where the buffer wasn't eased,
+// nothing can be now.
+#[inline(always)]
+fn stir_left(core: &mut WireCore, number: u32, eased: Option<u32>) -> Result<(), NoMemory>
+    requires sound { IsSound core.old }
+    ensures sound { OnOk result (IsSound core.new) }
+    ensures octets { Keeps core.old core.new }
+{
+    match eased {
+        Some(_) => core.stir(number),
+        None => core.stir_calm(number),
     }
 }
 
