@@ -121,10 +121,9 @@ impl Reader {
         ensures few { OnOk result (IsKnown into.new.reading) }
         ensures err { OnErr result ((self.new ≡ self.old) ⊎ (self.new.lost ≡ true)) }
     {
-        let Ok(act) = self.session.accept_with(frame, content) else {
+        let Ok(()) = self.session.accept_into(frame, content, &mut into.act) else {
             return Err(NoMemory);
         };
-        into.act = act;
         let Ok(reading) = self.read(&into.act) else {
             return Err(NoMemory);
         };

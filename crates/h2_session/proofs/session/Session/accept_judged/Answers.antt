@@ -25,14 +25,14 @@ returns-clause-act c = λ past h.
     let v : Summary = c.args.self.now in
     let frame = view c.args.frame.now in
     let none = sym (error_as past v frame h) ∙ sym c.error.ensures ∙ c.in_default.is in
-    (c.in_ok-act.ensures.takes past h none).act ∙ sym (ap (λ o. option_map_or (λ code. act.ConnError code) o (act_within v.side frame past)) none)
+    (c.in_ok-take_with.ensures.takes past h none).act ∙ sym (ap (λ o. option_map_or (λ code. act.ConnError code) o (act_within v.side frame past)) none)
 
 pub returns-clause-stands : goal.returns-clause-stands
 returns-clause-stands c = λ past h.
     let v : Summary = c.args.self.now in
     let frame = view c.args.frame.now in
     let none = sym (error_as past v frame h) ∙ sym c.error.ensures ∙ c.in_default.is in
-    let takes = c.in_ok-act.ensures.takes past h none in
+    let takes = c.in_ok-take_with.ensures.takes past h none in
     let stands = subst (λ (x : Summary). StandsFor (Came frame ∷ past) (started x)) (sym c.self-2.view_is) takes.stands in
     took_stands past v (started (the_view c.self-2.inside)) frame none stands
 
@@ -40,4 +40,4 @@ pub returns-clause-numbered : goal.returns-clause-numbered
 returns-clause-numbered c =
     let v : Summary = c.args.self.now in
     let frame = view c.args.frame.now in
-    c.in_ok-act.ensures.numbered (not_broken v.side frame (not v.started) v.block (uses_idle_in v frame) v.empties v.failed (sym c.error.ensures ∙ c.in_default.is))
+    c.in_ok-take_with.ensures.numbered (not_broken v.side frame (not v.started) v.block (uses_idle_in v frame) v.empties v.failed (sym c.error.ensures ∙ c.in_default.is))
