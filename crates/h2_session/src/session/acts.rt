@@ -1,6 +1,6 @@
 // The one act of each frame.
 ghost use Rattle.std.specs.Prelude.{◌≡◌, ◌==◌, ◌<◌, ◌≤◌, ◌+◌, ◌-◌, ◌^◌, ◌&&◌, false, not, min, List, Some, if◌then◌else◌, length, None, IfOk, IfSome, OnOk, OnErr};
-ghost use Rattle.h2_frames.specs.Frame.{padding_of, DataFrame, Reset};
+ghost use Rattle.h2_frames.specs.Frame.{padding_of, DataFrame, Reset, Settings};
 ghost use Rattle.h2_frames.specs.Spelling.{IsWritable};
 ghost use Rattle.h2_frames.specs.View.{view};
 ghost use Rattle.h2_session.specs.Acts.{IsContentOf, act_of, data_act, is_bulk, reset_act, stream_of, update_act};
@@ -186,7 +186,7 @@ impl Session {
             Frame::Settings {
                 ack: false,
                 entries,
-            } => { put_settings(self.alloc, entries, content, named, into) }
+            } => { self.take_settings(entries, content, named, into) }
             _ => self.take_small(frame, into),
         }
     }
@@ -363,22 +363,6 @@ fn copy_body(
 }
 
 // The settings of entries, in the octets that are handed in or else in a copy.
-fn put_settings(
-    alloc: Global,
-    entries: &[u8],
-    content: Option<Octets>,
-    named: Option<Named>,
-    into: &mut Act,
-) -> Result<(), NoMemory>
-    requires content { IfSome content (λ shared. shared ≡ entries.now) }
-    requires named { IfSome named (λ n. n ≡ named_in (settings_of entries.now)) }
-    ensures { OnOk result (into.new ≡ act.Settings (settings_of entries.now)) }
-{
-    let list = list_with(alloc, entries, content, named)?;
-    *into = Act::Settings { list };
-    Ok(())
-}
-
 fn list_with(
     alloc: Global,
     entries: &[u8],
@@ -438,6 +422,28 @@ impl Session {
         )?;
         self.streams.data_came(stream, state, last);
         self.empties = run_after(self.empties, self.empty_frames, octets, padded, last);
+        Ok(())
+    }
+
+    // SETTINGS with these entries.
+    #[cold]
+    #[inline(never)]
+    fn take_settings(
+        &self,
+        entries: &[u8],
+        content: Option<Octets>,
+        named: Option<Named>,
+        into: &mut Act,
+    ) -> Result<(), NoMemory>
+        requires content { IfSome content (λ shared. shared ≡ entries.now) }
+        requires named { IfSome named (λ n. n ≡ named_in (settings_of entries.now)) }
+        ensures takes { (past : List Happening) → StandsFor past self.now
+            → error_of self.now.side (Settings false entries.now) past ≡ None
+            → OnOk result (Takes (Settings false entries.now) self.now self.now into.new past) }
+        ensures of { OnOk result (stream_of into.new ≡ 0) }
+    {
+        let list = list_with(self.alloc, entries, content, named)?;
+        *into = Act::Settings { list };
         Ok(())
     }
 
