@@ -160,6 +160,10 @@ interim_stands past v w s h r put other =
     ∙ ap (λ (b : Bool). state_with (is_among s (opened v.side past)) (was_closed s past) (peer_ended s past) (was_ended s past) (not b && head_stands s past)) (sym (same_number s)))
     other
 
+-- what a stream was put to stands there
+pub put_there : (s : ℕ) (target : Option Stream) (old new : List (ℕ × Stream)) → Puts s target old new → stream_at s new ≡ target
+put_there s target old new put = put.at s ∙ ap (λ (b : Bool). cond b target (stream_at s old)) (same_number s)
+
 pub ended_from : (u v w : Summary) (s : ℕ) → u ≡ v → SameRest u w → Puts s (after_end (stream_at s u.streams)) u.streams w.streams → (IsNone (stream_at s u.streams) → w.streams ≡ u.streams)
     → (past : List Happening) → StandsFor past v → StandsFor (noted v.side s (Ended s) past) w
 ended_from u v w s e r put other past h =

@@ -1,7 +1,7 @@
 -- What a session gives and stands for after HEADERS and CONTINUATION frames.
 use Rattle.std.proofs.Common.{◌≡◌, ℕ, ◌+◌, ◌≤◌, Bool, true, false, cond, eqb, List, ◌++◌, length, Option, Some, None, Result, Ok, Err, refl, sym, ap, subst, ◌∙◌}
 use Rattle.std.specs.Option.{option_map_or}
-use Rattle.std.specs.Prelude.{IfOk, IfSome, MatchOption, nat_lt, not, option_map, ◌%◌, ◌&&◌, ◌||◌}
+use Rattle.std.specs.Prelude.{IfSome, MatchOption, OnOk, nat_lt, not, option_map, ◌%◌, ◌&&◌, ◌||◌}
 use Rattle.std.proofs.lemmas.Bool.{ltb-false, eqb-true}
 use Rattle.h2_frames.specs.Frame.{Continuation, Frame, Headers}
 use Rattle.h2_frames.specs.declared.types.Weighting.{Weighting}
@@ -129,8 +129,8 @@ continuation_end_takes v w s more given finishes past h none =
     Finishes o v w given = MatchOption o (w ≡ v) (λ b. EndsBlock (record { stream = b.stream; last = b.last; octets = b.octets ++ more; frames = 1 }) (unblocked v) w given)
 
 -- the same of a result
-pub continuation_result : {E : Type 0} (r : Result Act E) (v w : Summary) (s : ℕ) (e : Bool) (more : List ℕ) → e ≡ true → IfOk r (λ given. FinishesBlock more v w given)
-    → (past : List Happening) → StandsFor past v → error_of v.side (Continuation s e more) past ≡ None → IfOk r (λ given. Takes (Continuation s e more) v w given past)
-continuation_result (Ok given) v w s e more is finishes past h none =
+pub continuation_result : {T E : Type 0} (r : Result T E) (given : Act) (v w : Summary) (s : ℕ) (e : Bool) (more : List ℕ) → e ≡ true → OnOk r (FinishesBlock more v w given)
+    → (past : List Happening) → StandsFor past v → error_of v.side (Continuation s e more) past ≡ None → OnOk r (Takes (Continuation s e more) v w given past)
+continuation_result (Ok x) given v w s e more is finishes past h none =
     subst (λ (b : Bool). TakesFrom (Continuation s b more) w given v) (sym is) (continuation_end_takes v w s more given finishes) past h none
-continuation_result (Err error) v w s e more is finishes past h none = tt
+continuation_result (Err error) given v w s e more is finishes past h none = tt

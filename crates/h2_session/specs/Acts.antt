@@ -1,6 +1,6 @@
 -- The one act of each frame, after what happened before it (RFC 9113 sections 5 and 6).
 use Rattle.h2_frames.specs.declared.codes.TheConstants.{PROTOCOL_ERROR, REFUSED_STREAM, STREAM_CLOSED}
-use Rattle.h2_frames.specs.Frame.{DataFrame, Frame, GoAway, Ping, Reset, Settings, WindowUpdate}
+use Rattle.h2_frames.specs.Frame.{Continuation, DataFrame, Frame, GoAway, Headers, Ping, Reset, Settings, WindowUpdate}
 use Rattle.h2_session.specs.Blocks.{ended_block}
 use Rattle.h2_session.specs.Errors.{error_of, settings_of}
 use Rattle.h2_session.specs.Happened.{Happening, Side}
@@ -10,7 +10,7 @@ use Rattle.h2_session.specs.declared.act.Act.TheVariants as act
 use Rattle.h2_session.specs.declared.block.HeaderBlock.{HeaderBlock}
 use Rattle.h2_session.specs.declared.streams.Stream.{Stream}
 use Rattle.std.specs.Option.{option_map_or}
-use Rattle.std.specs.Prelude.{Bool, List, None, Option, Some, [], if◌then◌else◌, length, not, ℕ, ◌+◌, ◌==◌, ◌≡◌}
+use Rattle.std.specs.Prelude.{Bool, List, None, Option, Some, [], false, if◌then◌else◌, length, not, true, ℕ, ◌+◌, ◌==◌, ◌≡◌}
 
 -- a header block on a stream that is open, in this state, or isn't (sections 5.1 and 8.1)
 abbrev pub block_act : HeaderBlock → Option Stream → Act
@@ -58,6 +58,13 @@ act_within side frame past = option_map_or (λ b. ended_act side b past) (ended_
 -- the act of a frame
 abbrev pub act_of : Side → Frame → List Happening → Act
 act_of side frame past = option_map_or (λ code. act.ConnError code) (error_of side frame past) (act_within side frame past)
+
+-- a frame has content or a header block
+abbrev pub is_bulk : Frame → Bool
+is_bulk (DataFrame s last padded octets) = true
+is_bulk (Headers s last end_headers padded priority block) = true
+is_bulk (Continuation s end_headers block) = true
+is_bulk frame = false
 
 -- the stream that an act is about, 0 for the connection and for none
 abbrev pub stream_of : Act → ℕ

@@ -139,13 +139,14 @@ impl Session {
     }
 
     /// This side has sent END_STREAM on an open stream: it is half-closed (local) then, or closed where the peer had ended it
-    /// (RFC 9113 section 5.1). Where it isn't open nothing changes.
-    pub fn end_local(&mut self, stream: u32)
+    /// (RFC 9113 section 5.1). Where it isn't open nothing changes. The answer is what `is_open` answers from then on.
+    pub fn end_local(&mut self, stream: u32) -> bool
         ensures stands { (past : List Happening) → StandsFor past self.old → StandsFor (noted self.old.side stream (Ended stream) past) self.new }
         ensures side { self.new.side ≡ self.old.side }
         ensures other { IsNone (stream_at stream self.old.streams) → self.new ≡ self.old }
+        ensures open { result ≡ is_some (stream_at stream self.new.streams) }
     {
-        self.streams.end(stream);
+        self.streams.end(stream)
     }
 
     /// An open stream is closed, as by a RST_STREAM frame of this side (RFC 9113 section 5.1). Where it isn't open nothing

@@ -15,7 +15,7 @@
 //
 // Only the three states on the right have an entry. A closed stream is known by not being idle and
 // having none.
-ghost use Rattle.std.specs.Prelude.{◌≡◌, Some, None, [], length, IsSome, IsNone, OnOk, OnErr};
+ghost use Rattle.std.specs.Prelude.{◌≡◌, Some, None, [], is_some, length, IsSome, IsNone, OnOk, OnErr};
 ghost use Rattle.h2_session.specs.Table.{Puts, after_block, after_data, after_end, after_interim, stream_at, unless_ended};
 
 use io_ports::NoMemory;
@@ -81,20 +81,24 @@ impl Streams {
         self.open.insert(u64::from(stream), state)
     }
 
-    // Moves an open stream. It is closed once both sides have ended it.
+    // Moves an open stream. It is closed once both sides have ended it. The answer is whether it is still open.
     #[inline(always)]
-    fn set(&mut self, stream: u32, state: Stream)
+    fn set(&mut self, stream: u32, state: Stream) -> bool
         requires { IsSome (stream_at stream self.old) }
-        ensures { Puts stream (unless_ended state) self.old self.new }
+        ensures moves { Puts stream (unless_ended state) self.old self.new }
+        ensures open { result ≡ is_some (unless_ended state) }
     {
-        if state.peer_ended && state.ended {
-            self.open.remove(u64::from(stream));
-        } else {
+        let is_open = !(state.peer_ended && state.ended);
+        if is_open {
             self.open.set(u64::from(stream), state);
+        } else {
+            self.open.remove(u64::from(stream));
         }
+        is_open
     }
 
     /// DATA came on a stream, of which `get` gives this state. `last` is its END_STREAM, which closes the peer's half.
+    #[inline(always)]
     pub fn data_came(&mut self, stream: u32, state: Option<Stream>, last: bool)
         requires { state ≡ stream_at stream self.old }
         ensures moves { Puts stream (after_data last (stream_at stream self.old)) self.old self.new }
@@ -113,6 +117,7 @@ impl Streams {
     }
 
     /// A header block came on a stream, of which `get` gives this state. It is its last one perhaps.
+    #[inline(always)]
     pub fn block_came(&mut self, stream: u32, state: Option<Stream>, last: bool)
         requires { state ≡ stream_at stream self.old }
         ensures moves { Puts stream (after_block last (stream_at stream self.old)) self.old self.new }
@@ -128,15 +133,18 @@ impl Streams {
         }
     }
 
-    /// This side ended a stream.
-    pub fn end(&mut self, stream: u32)
+    /// This side ended a stream. The answer is whether it is still open.
+    #[inline(always)]
+    pub fn end(&mut self, stream: u32) -> bool
         ensures moves { Puts stream (after_end (stream_at stream self.old)) self.old self.new }
         ensures other { IsNone (stream_at stream self.old) → self.new ≡ self.old }
+        ensures open { result ≡ is_some (after_end (stream_at stream self.old)) }
     {
-        if let Some(state) = self.get(stream) {
-            let ended = true;
-            self.set(stream, Stream { ended, ..state });
-        }
+        let Some(state) = self.get(stream) else {
+            return false;
+        };
+        let ended = true;
+        self.set(stream, Stream { ended, ..state })
     }
 
     /// The last head on a stream was an interim one.

@@ -206,15 +206,17 @@ impl Inlet {
         self.reader.session.open_stream()
     }
 
-    /// This side has ended an open stream.
-    pub fn end_local(&mut self, stream: u32)
+    /// This side has ended an open stream. The answer is what `is_open` answers from then on.
+    #[inline(always)]
+    pub fn end_local(&mut self, stream: u32) -> bool
         ensures stands { (past : List Happening) → StandsFor past self.old.session
             → StandsFor (noted self.old.session.side stream (Ended stream) past) self.new.session }
         ensures side { self.new.session.side ≡ self.old.session.side }
         ensures same { HasSessionOf self.old self.new }
         ensures other { IsNone (stream_at stream self.old.session.streams) → self.new ≡ self.old }
+        ensures open { result ≡ is_some (stream_at stream self.new.session.streams) }
     {
-        self.reader.session.end_local(stream);
+        self.reader.session.end_local(stream)
     }
 
     /// An open stream is closed.

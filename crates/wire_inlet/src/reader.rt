@@ -1,5 +1,5 @@
 // What the frames of a connection mean, and what their header blocks give.
-ghost use Rattle.std.specs.Prelude.{◌≡◌, ◌≤◌, ◌<◌, ◌^◌, ◌⊎◌, [], None, Some, false, true, IfOk, IfSome, MatchOption, OnErr, OnOk};
+ghost use Rattle.std.specs.Prelude.{◌≡◌, ◌≤◌, ◌<◌, ◌^◌, ◌⊎◌, [], None, Some, false, true, IfSome, MatchOption, OnErr, OnOk};
 ghost use Rattle.h2_frames.specs.Frame.{padding_of};
 ghost use Rattle.h2_frames.specs.Spelling.{IsWritable};
 ghost use Rattle.h2_frames.specs.View.{view};
@@ -54,15 +54,24 @@ fn block_of(act: &Act) -> Option<&[u8]>
 
 // What a block gives. Each is decoded, once and in their order.
 #[inline(never)]
-fn read_block(decoder: &mut Decoder, block: &[u8]) -> Result<Reading, NoMemory>
-    ensures reads { IfOk result (λ reading. ReadsBlock decoder.old block.now reading decoder.new) }
-    ensures few { IfOk result IsKnown }
+fn read_block(decoder: &mut Decoder, block: &[u8], into: &mut Reading) -> Result<(), NoMemory>
+    ensures reads { OnOk result (ReadsBlock decoder.old block.now into.new decoder.new) }
+    ensures few { OnOk result (IsKnown into.new) }
 {
     match decoder.decode(block) {
-        Ok(fields) => Ok(Reading::Fields(fields)),
-        Err(HpackFault::ListTooLong) => Ok(Reading::TooLong),
+        Ok(fields) => {
+            *into = Reading::Fields(fields);
+            Ok(())
+        }
+        Err(HpackFault::ListTooLong) => {
+            *into = Reading::TooLong;
+            Ok(())
+        }
         Err(HpackFault::NoMemory) => Err(NoMemory),
-        Err(_) => Ok(Reading::Refused),
+        Err(_) => {
+            *into = Reading::Refused;
+            Ok(())
+        }
     }
 }
 
@@ -121,14 +130,12 @@ impl Reader {
         ensures few { OnOk result (IsKnown into.new.reading) }
         ensures err { OnErr result ((self.new ≡ self.old) ⊎ (self.new.lost ≡ true)) }
     {
-        let Ok(act) = self.session.accept_with(frame, content) else {
+        let Ok(()) = self.session.accept_into(frame, content, &mut into.act) else {
             return Err(NoMemory);
         };
-        into.act = act;
-        let Ok(reading) = self.read(&into.act) else {
+        let Ok(()) = self.read(&into.act, &mut into.reading) else {
             return Err(NoMemory);
         };
-        into.reading = reading;
         into.content = frame.content();
         into.is_update = matches!(*frame, Frame::WindowUpdate { .. });
         Ok(())
@@ -136,16 +143,17 @@ impl Reader {
 
     // What the header block of an act gives. After running out of memory the reader is lost.
     #[inline(always)]
-    fn read(&mut self, act: &Act) -> Result<Reading, NoMemory>
-        ensures reads { IfOk result (λ reading. ReadsBlockOf (block_of act.now) self.old.table reading self.new.table) }
-        ensures few { IfOk result IsKnown }
-        ensures kept { IfOk result (λ reading. self.new ≡ record self.old { table = self.new.table }) }
+    fn read(&mut self, act: &Act, into: &mut Reading) -> Result<(), NoMemory>
+        ensures reads { OnOk result (ReadsBlockOf (block_of act.now) self.old.table into.new self.new.table) }
+        ensures few { OnOk result (IsKnown into.new) }
+        ensures kept { OnOk result (self.new ≡ record self.old { table = self.new.table }) }
         ensures err { OnErr result (self.new.lost ≡ true) }
     {
         let Some(block) = block_of(act) else {
-            return Ok(Reading::Nothing);
+            *into = Reading::Nothing;
+            return Ok(());
         };
-        let read = read_block(&mut self.decoder, block);
+        let read = read_block(&mut self.decoder, block, into);
         if read.is_err() {
             self.lost = true;
         }

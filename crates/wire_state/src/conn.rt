@@ -307,11 +307,10 @@ impl Conn {
         ensures room { self.new.windows.send.conn ≡ self.old.windows.send.conn }
         ensures go { conn_go self.new ≤ conn_go self.old }
     {
-        if !last {
+        if !last || self.inlet.end_local(stream) {
             return;
         }
-        self.inlet.end_local(stream);
-        self.stream_ended(exchange, stream);
+        self.windows.send.close(exchange);
     }
 
     /// One side of a stream ended: once both have, it has no send window any more.

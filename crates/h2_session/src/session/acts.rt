@@ -1,9 +1,9 @@
 // The one act of each frame.
-ghost use Rattle.std.specs.Prelude.{◌≡◌, ◌==◌, ◌<◌, ◌≤◌, ◌+◌, ◌-◌, ◌^◌, ◌&&◌, false, not, min, List, if◌then◌else◌, length, None, IfOk, IfSome, OnOk, OnErr};
-ghost use Rattle.h2_frames.specs.Frame.{padding_of, DataFrame, Reset};
+ghost use Rattle.std.specs.Prelude.{◌≡◌, ◌==◌, ◌<◌, ◌≤◌, ◌+◌, ◌-◌, ◌^◌, ◌&&◌, false, not, min, List, Some, if◌then◌else◌, length, None, IfOk, IfSome, OnOk, OnErr};
+ghost use Rattle.h2_frames.specs.Frame.{padding_of, DataFrame, Reset, Settings};
 ghost use Rattle.h2_frames.specs.Spelling.{IsWritable};
 ghost use Rattle.h2_frames.specs.View.{view};
-ghost use Rattle.h2_session.specs.Acts.{IsContentOf, act_of, data_act, reset_act, stream_of, update_act};
+ghost use Rattle.h2_session.specs.Acts.{IsContentOf, act_of, data_act, is_bulk, reset_act, stream_of, update_act};
 ghost use Rattle.h2_session.specs.Errors.{after, breaks_block, error_of, settings_of};
 ghost use Rattle.h2_session.specs.Happened.{Happening};
 ghost use Rattle.h2_session.specs.Table.{stream_at};
@@ -41,7 +41,6 @@ impl Session {
 
     /// As `accept`, where the octets of a DATA frame and the entries of SETTINGS may be handed in as octets that share a block, so
     /// that none is copied.
-    #[inline(always)]
     pub fn accept_with(&mut self, frame: &Frame, content: Option<Octets>) -> Result<Act, NoMemory>
         requires writable { IsWritable (view frame.now) }
         requires padding { padding_of (view frame.now) ≤ 256 }
@@ -54,14 +53,65 @@ impl Session {
         ensures numbered { IfOk result (λ act. stream_of act < 2 ^ 31) }
         ensures err { OnErr result (self.new ≡ self.old) }
     {
-        let Frame::Settings { entries, .. } = *frame else {
-            return self.accept_judged(frame, content, None, Outside::none());
-        };
-        let (named, outside) = read_named(entries, if self.client_side { 0 } else { 1 });
-        self.accept_judged(frame, content, Some(named), outside)
+        let mut act = Act::Ignore;
+        self.accept_into(frame, content, &mut act)?;
+        Ok(act)
     }
 
-    // As `accept_with`, where it is known what SETTINGS come to, and which of them are outside their ranges. It is inlined, so that
+    /// As `accept_with`, where what the frame means is put into `into`, so that it needn't be moved on from call to call. After running
+    /// out of memory nothing is told of what is in `into`.
+    #[inline(always)]
+    pub fn accept_into(
+        &mut self,
+        frame: &Frame,
+        content: Option<Octets>,
+        into: &mut Act,
+    ) -> Result<(), NoMemory>
+        requires writable { IsWritable (view frame.now) }
+        requires padding { padding_of (view frame.now) ≤ 256 }
+        requires content { IfSome content (IsContentOf (view frame.now)) }
+        ensures act { (past : List Happening) → StandsFor past self.old
+            → OnOk result (into.new ≡ act_of self.old.side (view frame.now) past) }
+        ensures stands { (past : List Happening) → StandsFor past self.old
+            → OnOk result (StandsFor (after self.old.side (view frame.now) past) self.new) }
+        ensures side { self.new.side ≡ self.old.side }
+        ensures numbered { OnOk result (stream_of into.new < 2 ^ 31) }
+        ensures err { OnErr result (self.new ≡ self.old) }
+    {
+        if let Frame::Settings { .. } = *frame {
+            return self.accept_settings(frame, content, into);
+        }
+        self.accept_judged(frame, content, None, Outside::none(), into)
+    }
+
+    // As `accept_into`, where SETTINGS are read first. It isn't inlined, so that nothing is made ready for them where another frame comes.
+    #[cold]
+    #[inline(never)]
+    fn accept_settings(
+        &mut self,
+        frame: &Frame,
+        content: Option<Octets>,
+        into: &mut Act,
+    ) -> Result<(), NoMemory>
+        requires writable { IsWritable (view frame.now) }
+        requires padding { padding_of (view frame.now) ≤ 256 }
+        requires content { IfSome content (IsContentOf (view frame.now)) }
+        ensures act { (past : List Happening) → StandsFor past self.old
+            → OnOk result (into.new ≡ act_of self.old.side (view frame.now) past) }
+        ensures stands { (past : List Happening) → StandsFor past self.old
+            → OnOk result (StandsFor (after self.old.side (view frame.now) past) self.new) }
+        ensures side { self.new.side ≡ self.old.side }
+        ensures numbered { OnOk result (stream_of into.new < 2 ^ 31) }
+        ensures err { OnErr result (self.new ≡ self.old) }
+    {
+        let Frame::Settings { entries, .. } = *frame else {
+            return self.accept_judged(frame, content, None, Outside::none(), into);
+        };
+        let (named, outside) = read_named(entries, if self.client_side { 0 } else { 1 });
+        self.accept_judged(frame, content, Some(named), outside, into)
+    }
+
+    // As `accept_into`, where it is known what SETTINGS come to, and which of them are outside their ranges. It is inlined, so that
     // nothing is handed on where another frame comes.
     #[inline(always)]
     fn accept_judged(
@@ -70,45 +120,48 @@ impl Session {
         content: Option<Octets>,
         named: Option<Named>,
         outside: Outside,
-    ) -> Result<Act, NoMemory>
+        into: &mut Act,
+    ) -> Result<(), NoMemory>
         requires writable { IsWritable (view frame.now) }
         requires padding { padding_of (view frame.now) ≤ 256 }
         requires content { IfSome content (IsContentOf (view frame.now)) }
         requires named { named ≡ named_by (view frame.now) }
         requires outside { outside ≡ outside_by self.old.side.client_side (view frame.now) }
         ensures act { (past : List Happening) → StandsFor past self.old
-            → IfOk result (λ act. act ≡ act_of self.old.side (view frame.now) past) }
+            → OnOk result (into.new ≡ act_of self.old.side (view frame.now) past) }
         ensures stands { (past : List Happening) → StandsFor past self.old
             → OnOk result (StandsFor (after self.old.side (view frame.now) past) self.new) }
         ensures side { self.new.side ≡ self.old.side }
-        ensures numbered { IfOk result (λ act. stream_of act < 2 ^ 31) }
+        ensures numbered { OnOk result (stream_of into.new < 2 ^ 31) }
         ensures err { OnErr result (self.new ≡ self.old) }
     {
         if let Some(code) = self.error(frame, outside) {
-            self.failed = Some(code);
-            return Ok(Act::ConnError { code });
+            self.fail(code, into);
+            return Ok(());
         }
-        let act = self.take_with(frame, content, named)?;
+        self.take_with(frame, content, named, into)?;
         self.started = true;
-        Ok(act)
+        Ok(())
     }
 
-    // As `take`, with the octets of a DATA frame or the entries of SETTINGS where they are handed in, and what these come to.
+    // What a frame that is no connection error means, with the octets of a DATA frame or the entries of SETTINGS where they are handed
+    // in, and what these come to.
     #[inline(always)]
     fn take_with(
         &mut self,
         frame: &Frame,
         content: Option<Octets>,
         named: Option<Named>,
-    ) -> Result<Act, NoMemory>
+        into: &mut Act,
+    ) -> Result<(), NoMemory>
         requires writable { IsWritable (view frame.now) }
         requires padding { padding_of (view frame.now) ≤ 256 }
         requires content { IfSome content (IsContentOf (view frame.now)) }
         requires named { named ≡ named_by (view frame.now) }
         ensures takes { (past : List Happening) → StandsFor past self.old → error_of self.old.side (view frame.now) past ≡ None
-            → IfOk result (λ act. Takes (view frame.now) self.old self.new act past) }
+            → OnOk result (Takes (view frame.now) self.old self.new into.new past) }
         ensures side { self.new.side ≡ self.old.side }
-        ensures numbered { breaks_block (view frame.now) self.old.block ≡ false → IfOk result (λ act. stream_of act < 2 ^ 31) }
+        ensures numbered { breaks_block (view frame.now) self.old.block ≡ false → OnOk result (stream_of into.new < 2 ^ 31) }
         ensures err { OnErr result (self.new ≡ self.old) }
     {
         match *frame {
@@ -117,48 +170,67 @@ impl Session {
                 last,
                 padded,
                 octets,
-            } => self.take_data(stream, last, padded, octets, content),
-            Frame::Settings {
-                ack: false,
-                entries,
-            } => {
-                let list = list_with(self.alloc, entries, content, named)?;
-                Ok(Act::Settings { list })
-            }
-            _ => self.take(frame),
-        }
-    }
-
-    // What a frame that is no connection error means.
-    #[inline(always)]
-    fn take(&mut self, frame: &Frame) -> Result<Act, NoMemory>
-        requires writable { IsWritable (view frame.now) }
-        requires padding { padding_of (view frame.now) ≤ 256 }
-        ensures takes { (past : List Happening) → StandsFor past self.old → error_of self.old.side (view frame.now) past ≡ None
-            → IfOk result (λ act. Takes (view frame.now) self.old self.new act past) }
-        ensures side { self.new.side ≡ self.old.side }
-        ensures numbered { breaks_block (view frame.now) self.old.block ≡ false → IfOk result (λ act. stream_of act < 2 ^ 31) }
-        ensures err { OnErr result (self.new ≡ self.old) }
-    {
-        match *frame {
-            Frame::DataFrame {
-                stream,
-                last,
-                padded,
-                octets,
-            } => self.take_data(stream, last, padded, octets, None),
+            } => self.take_data(stream, last, padded, octets, content, into),
             Frame::Headers {
                 stream,
                 last,
                 end_headers,
                 block,
                 ..
-            } => self.take_headers(stream, last, end_headers, block),
+            } => self.take_headers(stream, last, end_headers, block, into),
             Frame::Continuation {
                 stream,
                 end_headers,
                 block,
-            } => self.take_continuation(stream, end_headers, block),
+            } => self.take_continuation(stream, end_headers, block, into),
+            Frame::Settings {
+                ack: false,
+                entries,
+            } => { self.take_settings(entries, content, named, into) }
+            _ => self.take_small(frame, into),
+        }
+    }
+
+    // The connection fails with this code.
+    #[cold]
+    #[inline(never)]
+    fn fail(&mut self, code: u32, into: &mut Act)
+        ensures fails { self.new ≡ record self.old { failed = Some code } }
+        ensures act { into.new ≡ act.ConnError code }
+    {
+        self.failed = Some(code);
+        *into = Act::ConnError { code };
+    }
+
+    // As `take`, where what the frame means is put into a place.
+    #[inline(always)]
+    fn take_small(&mut self, frame: &Frame, into: &mut Act) -> Result<(), NoMemory>
+        requires writable { IsWritable (view frame.now) }
+        requires padding { padding_of (view frame.now) ≤ 256 }
+        requires small { is_bulk (view frame.now) ≡ false }
+        ensures takes { (past : List Happening) → StandsFor past self.old → error_of self.old.side (view frame.now) past ≡ None
+            → OnOk result (Takes (view frame.now) self.old self.new into.new past) }
+        ensures side { self.new.side ≡ self.old.side }
+        ensures numbered { breaks_block (view frame.now) self.old.block ≡ false → OnOk result (stream_of into.new < 2 ^ 31) }
+        ensures err { OnErr result (self.new ≡ self.old) }
+    {
+        *into = self.take(frame)?;
+        Ok(())
+    }
+
+    // What a frame that is no connection error means, of a type that has neither content nor a header block.
+    #[inline(always)]
+    fn take(&mut self, frame: &Frame) -> Result<Act, NoMemory>
+        requires writable { IsWritable (view frame.now) }
+        requires padding { padding_of (view frame.now) ≤ 256 }
+        requires small { is_bulk (view frame.now) ≡ false }
+        ensures takes { (past : List Happening) → StandsFor past self.old → error_of self.old.side (view frame.now) past ≡ None
+            → IfOk result (λ act. Takes (view frame.now) self.old self.new act past) }
+        ensures side { self.new.side ≡ self.old.side }
+        ensures numbered { breaks_block (view frame.now) self.old.block ≡ false → IfOk result (λ act. stream_of act < 2 ^ 31) }
+        ensures err { OnErr result (self.new ≡ self.old) }
+    {
+        match *frame {
             Frame::Reset { stream, code } => Ok(self.take_reset(stream, code)),
             Frame::Settings { ack: true, .. } => Ok(Act::Ack),
             Frame::Settings {
@@ -176,6 +248,9 @@ impl Session {
             Frame::GoAway { last, code, .. } => Ok(Act::GoAway { last, code }),
             Frame::WindowUpdate { stream, increment } => Ok(self.window_update(stream, increment)),
             Frame::Priority { .. } | Frame::Push { .. } | Frame::Unknown { .. } => Ok(Act::Ignore),
+            Frame::DataFrame { .. } | Frame::Headers { .. } | Frame::Continuation { .. } => {
+                unreachable!()
+            }
         }
     }
 }
@@ -213,28 +288,78 @@ fn data_act(
     padded: u32,
     octets: &[u8],
     content: Option<Octets>,
-) -> Result<Act, NoMemory>
+    into: &mut Act,
+) -> Result<(), NoMemory>
     requires len { length octets.now + padded < 2 ^ 32 }
     requires content { IfSome content (λ shared. shared ≡ octets.now) }
-    ensures { IfOk result (λ act. act ≡ data_act stream last padded octets.now state) }
+    ensures { OnOk result (into.new ≡ data_act stream last padded octets.now state) }
 {
     let Some(state) = state else {
         let n = padded + octets.len() as u32;
-        return Ok(Act::Late { stream, n });
+        put_late(stream, n, into);
+        return Ok(());
     };
     if state.peer_ended {
-        return Ok(Act::StreamError {
-            stream,
-            code: STREAM_CLOSED,
-            block: Octets::new(alloc),
-        });
+        put_error(stream, STREAM_CLOSED, Octets::new(alloc), into);
+        return Ok(());
     }
-    Ok(Act::Body {
+    match content {
+        Some(shared) => {
+            put_body(stream, last, padded, shared, into);
+            Ok(())
+        }
+        None => copy_body(alloc, stream, last, padded, octets, into),
+    }
+}
+
+#[cold]
+#[inline(never)]
+fn put_late(stream: u32, n: u32, into: &mut Act)
+    ensures { into.new ≡ act.Late stream n }
+{
+    *into = Act::Late { stream, n };
+}
+
+// A stream error, with the field block that the decoder still needs.
+#[cold]
+#[inline(never)]
+pub(super) fn put_error(stream: u32, code: u32, block: Octets, into: &mut Act)
+    ensures { into.new ≡ act.StreamError stream code block }
+{
+    *into = Act::StreamError {
         stream,
-        octets: content_or_copy(alloc, octets, content)?,
+        code,
+        block,
+    };
+}
+
+#[inline(always)]
+fn put_body(stream: u32, last: bool, padded: u32, octets: Octets, into: &mut Act)
+    ensures { into.new ≡ act.Body stream octets padded last }
+{
+    *into = Act::Body {
+        stream,
+        octets,
         padded,
         last,
-    })
+    };
+}
+
+// Content of which the octets are copied.
+#[inline(never)]
+fn copy_body(
+    alloc: Global,
+    stream: u32,
+    last: bool,
+    padded: u32,
+    octets: &[u8],
+    into: &mut Act,
+) -> Result<(), NoMemory>
+    ensures { OnOk result (into.new ≡ act.Body stream octets.now padded last) }
+{
+    let octets = Octets::from_slice(alloc, octets)?;
+    put_body(stream, last, padded, octets, into);
+    Ok(())
 }
 
 // The settings of entries, in the octets that are handed in or else in a copy.
@@ -280,21 +405,46 @@ impl Session {
         padded: u32,
         octets: &[u8],
         content: Option<Octets>,
-    ) -> Result<Act, NoMemory>
+        into: &mut Act,
+    ) -> Result<(), NoMemory>
         requires len { length octets.now + padded < 2 ^ 32 }
         requires content { IfSome content (λ shared. shared ≡ octets.now) }
         ensures takes { (past : List Happening) → StandsFor past self.old
             → error_of self.old.side (DataFrame stream last padded octets.now) past ≡ None
-            → IfOk result (λ act. Takes (DataFrame stream last padded octets.now) self.old self.new act past) }
+            → OnOk result (Takes (DataFrame stream last padded octets.now) self.old self.new into.new past) }
         ensures side { self.new.side ≡ self.old.side }
-        ensures of { IfOk result (λ act. stream_of act ≤ stream) }
+        ensures of { OnOk result (stream_of into.new ≤ stream) }
         ensures err { OnErr result (self.new ≡ self.old) }
     {
         let state = self.streams.get(stream);
-        let act = data_act(self.alloc, state, stream, last, padded, octets, content)?;
+        data_act(
+            self.alloc, state, stream, last, padded, octets, content, into,
+        )?;
         self.streams.data_came(stream, state, last);
         self.empties = run_after(self.empties, self.empty_frames, octets, padded, last);
-        Ok(act)
+        Ok(())
+    }
+
+    // SETTINGS with these entries.
+    #[cold]
+    #[inline(never)]
+    fn take_settings(
+        &self,
+        entries: &[u8],
+        content: Option<Octets>,
+        named: Option<Named>,
+        into: &mut Act,
+    ) -> Result<(), NoMemory>
+        requires content { IfSome content (λ shared. shared ≡ entries.now) }
+        requires named { IfSome named (λ n. n ≡ named_in (settings_of entries.now)) }
+        ensures takes { (past : List Happening) → StandsFor past self.now
+            → error_of self.now.side (Settings false entries.now) past ≡ None
+            → OnOk result (Takes (Settings false entries.now) self.now self.now into.new past) }
+        ensures of { OnOk result (stream_of into.new ≡ 0) }
+    {
+        let list = list_with(self.alloc, entries, content, named)?;
+        *into = Act::Settings { list };
+        Ok(())
     }
 
     fn take_reset(&mut self, stream: u32, code: u32) -> Act

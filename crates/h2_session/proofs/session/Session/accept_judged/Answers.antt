@@ -9,7 +9,7 @@ use Rattle.h2_session.specs.Summary.{StandsFor, Summary, uses_idle_in}
 use Rattle.h2_session.specs.declared.act.Act.TheVariants as act
 use Rattle.h2_session.specs.contracts.session.Session.{the_view}
 use Rattle.h2_session.proofs.Errors.{not_broken}
-use Rattle.h2_session.proofs.Accepts.{error_as, failed_stands, failed_with, took_stands}
+use Rattle.h2_session.proofs.Accepts.{error_as, failed_stands, took_stands}
 use Rattle.h2_session.proofs.Frames.{started}
 use Rattle.h2_session.proofs.session.Session.accept_judged.Goals as goal
 
@@ -18,26 +18,26 @@ returns-in-Some-clause-stands c = λ past h.
     let v : Summary = c.args.self.now in
     let frame = view c.args.frame.now in
     let is = sym (error_as past v frame h) ∙ sym c.error.ensures ∙ c.in-Some.is in
-    subst (λ (x : Summary). StandsFor (after v.side frame past) (failed_with c.in-Some.code x)) (sym c.self.view_is) (failed_stands past v frame c.in-Some.code h is)
+    subst (λ (w : Summary). StandsFor (after v.side frame past) w) (sym c.fail.ensures.fails) (failed_stands past v frame c.in-Some.code h is)
 
 pub returns-clause-act : goal.returns-clause-act
 returns-clause-act c = λ past h.
     let v : Summary = c.args.self.now in
     let frame = view c.args.frame.now in
     let none = sym (error_as past v frame h) ∙ sym c.error.ensures ∙ c.in_default.is in
-    (c.in_ok-act.ensures.takes past h none).act ∙ sym (ap (λ o. option_map_or (λ code. act.ConnError code) o (act_within v.side frame past)) none)
+    (c.in_ok-take_with.ensures.takes past h none).act ∙ sym (ap (λ o. option_map_or (λ code. act.ConnError code) o (act_within v.side frame past)) none)
 
 pub returns-clause-stands : goal.returns-clause-stands
 returns-clause-stands c = λ past h.
     let v : Summary = c.args.self.now in
     let frame = view c.args.frame.now in
     let none = sym (error_as past v frame h) ∙ sym c.error.ensures ∙ c.in_default.is in
-    let takes = c.in_ok-act.ensures.takes past h none in
-    let stands = subst (λ (x : Summary). StandsFor (Came frame ∷ past) (started x)) (sym c.self-2.view_is) takes.stands in
-    took_stands past v (started (the_view c.self-2.inside)) frame none stands
+    let takes = c.in_ok-take_with.ensures.takes past h none in
+    let stands = subst (λ (x : Summary). StandsFor (Came frame ∷ past) (started x)) (sym c.self.view_is) takes.stands in
+    took_stands past v (started (the_view c.self.inside)) frame none stands
 
 pub returns-clause-numbered : goal.returns-clause-numbered
 returns-clause-numbered c =
     let v : Summary = c.args.self.now in
     let frame = view c.args.frame.now in
-    c.in_ok-act.ensures.numbered (not_broken v.side frame (not v.started) v.block (uses_idle_in v frame) v.empties v.failed (sym c.error.ensures ∙ c.in_default.is))
+    c.in_ok-take_with.ensures.numbered (not_broken v.side frame (not v.started) v.block (uses_idle_in v frame) v.empties v.failed (sym c.error.ensures ∙ c.in_default.is))

@@ -14,8 +14,8 @@ returns-clause-takes c =
     let frame : Frame = DataFrame s c.args.last c.args.padded octets in
     let u : Summary = the_view c.self.inside in
     let w : Summary = record { side = u.side; failed = u.failed; started = u.started; block = u.block; greatest = u.greatest; next = u.next; empties = c.run_after-self-inside.result; streams = c.data_came.new.self } in
-    takes_from frame w c.in_ok-act.act u c.args.self.now c.self.view_is
-    (data_takes u w s c.args.padded c.args.last octets c.in_ok-act.act (c.in_ok-act.ensures ∙ ap (data_act s c.args.last c.args.padded octets) c.get-state.ensures)
+    takes_from frame w c.data_act.new.into u c.args.self.now c.self.view_is
+    (data_takes u w s c.args.padded c.args.last octets c.data_act.new.into (c.in_ok-data_act.ensures ∙ ap (data_act s c.args.last c.args.padded octets) c.get-state.ensures)
     (record { side = refl; failed = refl; block = refl; greatest = refl; next = refl }) c.run_after-self-inside.ensures c.data_came.ensures.moves)
 
 pub invariant_of-self : goal.invariant_of-self
