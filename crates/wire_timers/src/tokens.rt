@@ -14,7 +14,8 @@ use std::marker::Brand;
 use std::mem::{self, ManuallyDrop};
 use std::sync::ledger::{Blank, Ledger};
 
-/// A place for a token. It is blank only until the timer that it was made for is armed.
+/// A place for a token. It is made before its timer is armed, so that arming needs no memory of the map any more, and is blank
+/// until then.
 ///
 /// A token can't be dropped, and a map may drop what it holds; so a place holds it in a `ManuallyDrop`. None is lost: each
 /// token in a map is that of a timer that is armed or has fired, and goes back to `scaled_timer` once it is taken out.
@@ -72,6 +73,7 @@ impl Tokens {
         ensures old { result ≡ find_in self.old (kind, id) }
         ensures new { (q : Key) → find_in self.new q ≡ cond (same_key (kind, id) q) (Some timer) (find_in self.old q) }
     {
+        // It is consumed by who gets it from `put` or `take`.
         let token = unsafe { ManuallyDrop::new_unchecked(timer) };
         let Some(place) = self.by_kind[kind as usize].get_mut(&id) else {
             unreachable!();
