@@ -1,11 +1,13 @@
 // The command line: its words are those behind the program's name.
 use crate::pages::{HELP, USAGE, VERSION};
-use io_ports::{StdSink, StdSource};
+use program_ports::{Input, Output};
 use session_run::Status;
 use std::env::{self, Env};
 use std::io::{Eprint, ErrorKind, Read, Write};
 use std::process::ExitCode;
 use tape_plot::{Outcome, plot_tape, read_choice};
+
+const UNWRITTEN: &str = "standard output couldn't be written";
 
 /// Draws what the words ask for of the tape that is read, and answers the exit code. Why it isn't 0 is told in a line on standard
 /// error; where the words have no form, that is the usage. `--help` and `--version` are answered on the output.
@@ -19,7 +21,7 @@ pub fn plot_words<R: Env + Eprint + AllocGlobal, I: Read + Drop, O: Write + Drop
         Err(status) => return end_early(rt, status),
     };
     match page(words.as_slice()) {
-        Some(text) => show_page(output, text),
+        Some(text) => show_page(rt, output, text),
         None => plot(rt, words.as_slice(), input, output),
     }
 }
@@ -33,10 +35,10 @@ fn plot<R: Eprint + AllocGlobal, I: Read + Drop, O: Write + Drop>(
     let Some(choice) = read_choice(words) else {
         return end_early(rt, Status::Usage);
     };
-    let mut source = StdSource::new(input);
-    let mut sink = StdSink::new(output);
-    let outcome = plot_tape(rt.alloc(), &choice, &mut source, &mut sink);
-    tell_outcome(rt, &outcome);
+    let mut tape = Input::new(input);
+    let mut out = Output::new(output);
+    let outcome = plot_tape(rt.alloc(), &choice, &mut tape, &mut out);
+    tell_outcome(rt, &outcome, tape.kind(), out.kind());
     ExitCode::from(outcome.status.code())
 }
 
@@ -60,10 +62,13 @@ fn page(words: &[String]) -> Option<&'static str> {
     }
 }
 
-fn show_page<O: Write + Drop>(mut output: O, text: &str) -> ExitCode {
+fn show_page<R: Eprint, O: Write + Drop>(rt: &R, mut output: O, text: &str) -> ExitCode {
     match output.write_all(text.as_bytes()) {
         Ok(()) => ExitCode::from(Status::Done.code()),
-        Err(_) => ExitCode::from(Status::WriteFault.code()),
+        Err(error) => {
+            tell_fault(rt, UNWRITTEN, Some(error.kind()));
+            ExitCode::from(Status::WriteFault.code())
+        }
     }
 }
 
@@ -80,23 +85,30 @@ fn words<R: Env + AllocGlobal>(rt: &R) -> Result<Vec<String>, Status> {
     Ok(words)
 }
 
-/// Tells in one line why a tape wasn't drawn. Where standard error is closed there is nobody to tell.
-fn tell_outcome<R: Eprint>(rt: &R, outcome: &Outcome) {
+// Tells in one line why a tape wasn't drawn. Given are the kinds of the errors that the last read and the last write failed with.
+// Where standard error is closed there is nobody to tell.
+fn tell_outcome<R: Eprint>(
+    rt: &R,
+    outcome: &Outcome,
+    read: Option<ErrorKind>,
+    written: Option<ErrorKind>,
+) {
     let line = outcome.line;
-    let _ = match outcome.refusal {
-        Some(refusal) => eprintln!(rt; "h2plot: line {line}: {refusal}"),
-        None => match fault(outcome.status) {
-            Some(why) => eprintln!(rt; "h2plot: {why}"),
-            None => Ok(()),
-        },
-    };
+    if let Some(refusal) = outcome.refusal {
+        let _ = eprintln!(rt; "h2plot: line {line}: {refusal}");
+        return;
+    }
+    match outcome.status {
+        Status::ReadFault => tell_fault(rt, "standard input couldn't be read", read),
+        Status::WriteFault => tell_fault(rt, UNWRITTEN, written),
+        Status::Memory => tell_fault(rt, "out of memory", None),
+        _ => {}
+    }
 }
 
-fn fault(status: Status) -> Option<&'static str> {
-    match status {
-        Status::ReadFault => Some("standard input couldn't be read"),
-        Status::WriteFault => Some("standard output couldn't be written"),
-        Status::Memory => Some("out of memory"),
-        _ => None,
-    }
+fn tell_fault<R: Eprint>(rt: &R, why: &str, kind: Option<ErrorKind>) {
+    let _ = match kind {
+        Some(kind) => eprintln!(rt; "h2plot: {why}: {kind}"),
+        None => eprintln!(rt; "h2plot: {why}"),
+    };
 }

@@ -28,12 +28,13 @@ Time goes from left to right by dispatches. A lane shows how many octets a buffe
 the greatest, and on with the last. The limit is a line of long dashes, half of it one of short dashes, and what stood above the
 limit is filled. A tape that was cut tells no limits, and is drawn without. The bar below a flow is its read-disable count, white
 at 0. Triangles are dooms, squares closes, diamonds timers; a browser shows their words, and those that began a dispatch, where
-the pointer rests. Where a tape is long, a column has 2, 4, 8 or more dispatches. Where the status isn't 0, a line on standard
-error says why, and nothing is written.
+the pointer rests. Where a tape is long, a column has 2, 4, 8 or more dispatches. The `shed` lines that h2replay shed writes are
+refused, and move nothing: h2replay shed CONFIG < s.session | grep -v '^shed ' | h2plot > s.svg. Where the status isn't 0, a line on
+standard error says why, and nothing is written.
 
   0  the picture was written
   2  the words have no form
-  4  a line is neither a note nor a line of a summary, or stands out of order
+  4  a line is neither a note nor a line of a summary, or stands out of order, or has more than 131,071 octets
   5  the tape couldn't be read
   6  the output couldn't be written
   7  out of memory

@@ -5,6 +5,7 @@ mod pages;
 mod tell;
 
 use crate::pages::{HELP, USAGE, VERSION};
+use crate::tell::tell_unwritten;
 use config_text::ConfigFile;
 use program_ports::{Input, Output};
 use proxy_site::Status;
@@ -50,7 +51,7 @@ where
         Err(status) => return end_early(&rt, status),
     };
     match page(words.as_slice()) {
-        Some(text) => show_page(output, text),
+        Some(text) => show_page(&rt, output, text),
         None => serve_sockets(rt, words.as_slice(), output),
     }
 }
@@ -110,6 +111,7 @@ where
     tell_served(
         rt,
         served,
+        words,
         config.reader().text(),
         config.kind(),
         out.kind(),
@@ -137,24 +139,30 @@ fn page(words: &[String]) -> Option<&'static str> {
     }
 }
 
-fn show_page<O: Write + Drop>(mut output: O, text: &str) -> ExitCode {
+fn show_page<R: Eprint, O: Write + Drop>(rt: &R, mut output: O, text: &str) -> ExitCode {
     match output.write_all(text.as_bytes()) {
         Ok(()) => ExitCode::from(Status::Done.code()),
-        Err(_) => ExitCode::from(Status::WriteFault.code()),
+        Err(error) => {
+            tell_unwritten(rt, error.kind());
+            ExitCode::from(Status::WriteFault.code())
+        }
     }
 }
 
 // The file that the words name, if they have a form. One that can't be opened is a reader whose reads fail.
 fn open_config<R: Files + AllocGlobal>(rt: &R, words: &[String]) -> ConfigFile<R::File> {
-    let path = match read_proxy_form(words) {
-        Some(ProxyForm::Relay { .. }) => words.get(1),
-        Some(ProxyForm::Wire { .. }) => words.first(),
-        None => None,
-    };
-    match path {
-        Some(path) => ConfigFile::of(rt.alloc(), fs::open(rt, path.as_str())),
+    match config_path(words) {
+        Some(path) => ConfigFile::of(rt.alloc(), fs::open(rt, path)),
         None => ConfigFile::Shut(ErrorKind::NotFound),
     }
+}
+
+fn config_path(words: &[String]) -> Option<&str> {
+    let path = match read_proxy_form(words)? {
+        ProxyForm::Relay { .. } => words.get(1)?,
+        ProxyForm::Wire { .. } => words.first()?,
+    };
+    Some(path.as_str())
 }
 
 // The words behind the program's name. Words that aren't UTF-8 have no form.

@@ -33,7 +33,7 @@ Keys of the configuration that both forms use, with their defaults:
   journal = \"J\"                 every event is written to the file J.1, which `h2replay relay CONFIG` replays, or by worker k
                                 to J.k, which `h2replay wire CONFIG` replays; none by default
 
-A proxy of HTTP/2 also uses the [[routes]], the timeouts, the limits and the [overload] of its configuration, and
+A proxy of HTTP/2 also uses the [[routes]], the timeouts, the limits and the [overload] of its configuration but overload.shed, and
 
   workers = 2                   how many threads, each with connections of its own
   accept_rate = 0               how many clients may come in each tenth of a second; 0 is no limit
@@ -41,7 +41,8 @@ A proxy of HTTP/2 also uses the [[routes]], the timeouts, the limits and the [ov
 
 Once it listens, `listening ADDRESS` stands on standard output. It ends after TURNS turns of each worker or of the relay, in each of
 which it takes one event or waits for a tenth of a second, or when it is killed. What a journal holds by then is whole to the last
-octet that was sent. Where the status isn't 0, lines on standard error say why.
+octet that was sent. Where the status isn't 0, lines on standard error say why. Keys that are set and that it doesn't use have
+lines there at the start, and so has each resource but `connections`, since no other has a gauge.
 
   0  all turns are over, or no connection could get a number any more
   2  the words have no form

@@ -1,5 +1,6 @@
 // Why the proxy ended, on standard error.
 
+use crate::config_path;
 use crate::pages::USAGE;
 use config_tables::ConfigFault;
 use config_text::tell_no_toml;
@@ -12,11 +13,12 @@ use std::io::{Eprint, ErrorKind};
 use worker_loop::Ended;
 
 /// Tells why the proxy ended otherwise than by its turns: in one line, or in one for each worker that did; where the words have no
-/// form, that is the usage. Given are what was read of the configuration, and the kinds of the errors that its last read and the
-/// output's last write failed with. Where standard error is closed there is nobody to tell.
+/// form, that is the usage. Given are the words, what was read of the configuration, and the kinds of the errors that its last read
+/// and the output's last write failed with. Where standard error is closed there is nobody to tell.
 pub fn tell_served<R: Eprint + AllocGlobal>(
     rt: &R,
     served: ProxyServed,
+    words: &[String],
     text: &[u8],
     config: Option<ErrorKind>,
     out: Option<ErrorKind>,
@@ -30,22 +32,36 @@ pub fn tell_served<R: Eprint + AllocGlobal>(
         ProxyReason::Relay(ServeReason::Config(ConfigFault::NotToml)) => tell_no_toml(
             rt, "h2proxy", text,
         ),
-        ProxyReason::Relay(reason) => tell_reason(rt, reason, config, out),
+        ProxyReason::Relay(reason) => tell_reason(rt, reason, config_path(words), config, out),
     }
 }
 
 fn tell_reason<R: Eprint + AllocGlobal>(
     rt: &R,
     reason: ServeReason,
+    path: Option<&str>,
     config: Option<ErrorKind>,
     out: Option<ErrorKind>,
 ) {
-    match reason {
-        ServeReason::Config(fault) => tell_config(rt, fault),
-        ServeReason::ConfigRead => tell_line(rt, line_of(&ServeReason::ConfigRead), config),
-        ServeReason::Write => tell_line(rt, line_of(&ServeReason::Write), out),
-        reason => tell_line(rt, line_of(&reason), None),
+    match (reason, path) {
+        (ServeReason::Config(fault), _) => tell_config(rt, fault),
+        (ServeReason::ConfigRead, Some(path)) => tell_unread(rt, path, config),
+        (ServeReason::Write, _) => tell_line(rt, line_of(&ServeReason::Write), out),
+        (reason, _) => tell_line(rt, line_of(&reason), None),
     }
+}
+
+// The configuration of this name couldn't be read.
+fn tell_unread<R: Eprint>(rt: &R, path: &str, kind: Option<ErrorKind>) {
+    let _ = match kind {
+        Some(kind) => eprintln!(rt; "h2proxy: the configuration {path} can't be read: {kind}"),
+        None => eprintln!(rt; "h2proxy: the configuration {path} can't be read"),
+    };
+}
+
+/// Tells that a page couldn't be written.
+pub fn tell_unwritten<R: Eprint>(rt: &R, kind: ErrorKind) {
+    tell_line(rt, line_of(&ServeReason::Write), Some(kind));
 }
 
 fn line_of(reason: &ServeReason) -> &'static str {

@@ -7,8 +7,8 @@ use std::sync::Arc;
 use std::sync::atomic::{AtomicU32, Ordering};
 use worker_ports::Gauge;
 
-/// The name of the resource.
-const CONNECTIONS: &[u8] = b"connections";
+/// The name of the resource that has a gauge.
+pub const CONNECTIONS: &[u8] = b"connections";
 
 /// How many connections of clients there are, and the most that there may be.
 #[derive(Drop)]

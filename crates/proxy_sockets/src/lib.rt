@@ -4,6 +4,7 @@
 mod counts;
 mod journal;
 mod socket_site;
+mod unused;
 mod warn;
 mod wire_sockets;
 

@@ -8,6 +8,7 @@ ghost use Rattle.proxy_sockets.specs.Sites.{site_faults};
 
 use crate::counts::ClientCounts;
 use crate::journal::FileJournal;
+use crate::unused::warn_unused;
 use crate::warn::{
     shown, warn_address, warn_files, warn_journal, warn_listen, warn_sockets, warn_written,
 };
@@ -95,8 +96,8 @@ impl<R: Eprint + Files + Net + Clock + Wait + AllocGlobal + Copy + Drop> SocketS
         }
     }
 
-    // What the sockets of a relay, or of a worker that counts from 1, are to be. Clusters without an address that can be read, and too
-    // few files, are told once.
+    // What the sockets of a relay, or of a worker that counts from 1, are to be. Clusters without an address that can be read, too few
+    // files, and keys that are set and do nothing are told once.
     pub(crate) fn plan(
         &self,
         config: &Config,
@@ -118,6 +119,7 @@ impl<R: Eprint + Files + Net + Clock + Wait + AllocGlobal + Copy + Drop> SocketS
         };
         if worker == 1 {
             self.look_at_files(&plan, config);
+            warn_unused(&self.rt, config, sharing);
         }
         Ok(plan)
     }

@@ -28,6 +28,17 @@ pub fn warn_files<R: Eprint>(rt: &R, files: u64, most: u64) {
     );
 }
 
+/// A resource has no gauge.
+pub fn warn_gauge<R: Eprint>(rt: &R, name: &[u8]) {
+    let name = shown(name);
+    let _ = eprintln!(rt; "h2proxy: resource {name} has no gauge: its triggers never fire");
+}
+
+/// A key that is set does nothing.
+pub fn warn_key<R: Eprint>(rt: &R, what: &str) {
+    let _ = eprintln!(rt; "h2proxy: {what}");
+}
+
 /// The journal can't be made.
 pub fn warn_journal<R: Eprint>(rt: &R, path: &str, kind: ErrorKind) {
     let _ = eprintln!(rt; "h2proxy: the journal {path} can't be made: {kind}");

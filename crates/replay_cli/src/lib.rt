@@ -5,11 +5,11 @@ mod pages;
 mod tell;
 
 use crate::pages::{HELP, USAGE, VERSION};
-use crate::tell::tell_outcome;
+use crate::tell::{tell_outcome, tell_unwritten};
 use config_tables::ConfigFault;
 use config_text::{ConfigFile, tell_no_toml};
 use program_ports::{Input, Output};
-use replay_run::{Reason, Status, replay_with_reason};
+use replay_run::{Form, Reason, Status, read_form, replay_with_reason};
 use std::env::{self, Env};
 use std::fs;
 use std::io::{Eprint, ErrorKind, Read, Write};
@@ -29,7 +29,7 @@ pub fn replay_words<R: Env + Eprint + Files + AllocGlobal, I: Read + Drop, O: Wr
         Err(status) => return end_early(rt, status),
     };
     match page(words.as_slice()) {
-        Some(text) => show_page(output, text),
+        Some(text) => show_page(rt, output, text),
         None => replay_session(rt, words.as_slice(), input, output),
     }
 }
@@ -50,7 +50,14 @@ fn replay_session<R: Eprint + Files + AllocGlobal, I: Read + Drop, O: Write + Dr
     } else if let Reason::Config(ConfigFault::NotToml) = outcome.reason {
         tell_no_toml(rt, "h2replay", config.reader().text());
     } else {
-        tell_outcome(rt, &outcome, config.kind(), session.kind(), out.kind());
+        tell_outcome(
+            rt,
+            &outcome,
+            config_path(words),
+            config.kind(),
+            session.kind(),
+            out.kind(),
+        );
     }
     ExitCode::from(outcome.status.code())
 }
@@ -74,18 +81,28 @@ fn page(words: &[String]) -> Option<&'static str> {
     }
 }
 
-fn show_page<O: Write + Drop>(mut output: O, text: &str) -> ExitCode {
+fn show_page<R: Eprint, O: Write + Drop>(rt: &R, mut output: O, text: &str) -> ExitCode {
     match output.write_all(text.as_bytes()) {
         Ok(()) => ExitCode::from(Status::Done.code()),
-        Err(_) => ExitCode::from(Status::WriteFault.code()),
+        Err(error) => {
+            tell_unwritten(rt, error.kind());
+            ExitCode::from(Status::WriteFault.code())
+        }
     }
 }
 
-// The file that the second word names. One that can't be opened is a reader whose reads fail.
+// The file that the words name, if their form has one. One that can't be opened is a reader whose reads fail.
 fn open_config<R: Files + AllocGlobal>(rt: &R, words: &[String]) -> ConfigFile<R::File> {
-    match words {
-        [_, path] => ConfigFile::of(rt.alloc(), fs::open(rt, path.as_str())),
-        _ => ConfigFile::Shut(ErrorKind::NotFound),
+    match config_path(words) {
+        Some(path) => ConfigFile::of(rt.alloc(), fs::open(rt, path)),
+        None => ConfigFile::Shut(ErrorKind::NotFound),
+    }
+}
+
+fn config_path(words: &[String]) -> Option<&str> {
+    match (read_form(words), words) {
+        (Some(Form::Wire | Form::Shed | Form::Relay), [_, path]) => Some(path.as_str()),
+        _ => None,
     }
 }
 

@@ -26,6 +26,9 @@ pub const HELP: &str =
   h2replay --help        this page
   h2replay --version     the program's version
 
+Of the configuration h2replay wire uses all but the addresses of clusters, [proxy] and overload.shed, which h2replay shed uses too;
+h2replay relay uses limits.write_buffer and the names of clusters and resources. The rest is checked.
+
 The tape goes to standard output, and behind it a summary: the greatest length of each buffer, each pause with its resume, and
 how many dispatches there were. Where the status isn't 0, a line on standard error says why.
 

@@ -22,8 +22,8 @@ pub fn put_unknown(into: &mut Octets, key: &[u8]) -> Result<(), NoMemory>
     }
 }
 
-// How many octets the key's table, or its list and row, have with the dot behind them.
-fn place_len(key: &[u8]) -> usize
+/// How many octets the key's table, or its list and row, have with the dot behind them.
+pub fn place_len(key: &[u8]) -> usize
     ensures is { result ≡ spec.place_len key.now }
     ensures within { result ≤ length key.now }
 {

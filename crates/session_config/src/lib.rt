@@ -1,6 +1,7 @@
 //! The configuration of a session, read from a source, and what is told where it is refused.
 #![tactic(auto)]
 
+mod choice;
 mod key;
 mod load;
 mod names;

@@ -2,12 +2,13 @@
 ghost use Rattle.std.specs.Prelude.{OnErr, OnOk};
 ghost use Rattle.flow_notes.specs.Extends.{Extends};
 
+use crate::choice::{needed_at, said_beside};
 use crate::refusal::put_key;
 use config_tables::ConfigFault;
 use io_ports::{NoMemory, Octets};
 
 /// What may stand at a key, by the last part of its name.
-const ASKED: [(&[u8], &[u8]); 46] = [
+const ASKED: [(&[u8], &[u8]); 51] = [
     (b"write_buffer", b"a number from 0 to 16,777,216"),
     (b"send_buffer", b"a number from 0 to 16,777,216"),
     (b"stream_window", b"a number from 65,535 to 16,777,216"),
@@ -81,6 +82,11 @@ const ASKED: [(&[u8], &[u8]); 46] = [
     (b"accept_rate", b"a number from 0 to 1,000,000"),
     (b"accept_burst", b"a number from 1 to 1,000,000"),
     (b"clusters", b"a list of tables, [[clusters]]"),
+    (b"routes", b"a list of tables, [[routes]]"),
+    (b"limits", b"a table, [limits]"),
+    (b"timeouts", b"a table, [timeouts]"),
+    (b"overload", b"a table, [overload]"),
+    (b"proxy", b"a table, [proxy]"),
 ];
 
 /// Appends what is wrong with a configuration, in one line without its newline, as `configuration: limits.max_streams is out of its
@@ -93,14 +99,14 @@ pub fn put_config_fault(fault: &ConfigFault, into: &mut Octets) -> Result<(), No
     match fault {
         ConfigFault::NotToml => into.push_all(b"the text is no TOML document in UTF-8"),
         ConfigFault::NoMemory => into.push_all(b"out of memory"),
-        ConfigFault::Missing(_) => put_key_fault(fault, b" is missing", into),
+        ConfigFault::Missing(key) => put_missing(fault, key.as_slice(), into),
         ConfigFault::WrongKind(key) => {
             put_asked(fault, b" has a value of another kind", key.as_slice(), into)
         }
         ConfigFault::OutOfRange(key) => {
             put_asked(fault, b" is out of its range", key.as_slice(), into)
         }
-        ConfigFault::Unknown(_) => put_key_fault(fault, b" is no key of it", into),
+        ConfigFault::Unknown(key) => put_strange(fault, key.as_slice(), into),
         ConfigFault::UnknownCluster(_) => put_key_fault(fault, b" names no cluster of it", into),
     }
 }
@@ -111,6 +117,31 @@ fn put_key_fault(fault: &ConfigFault, what: &[u8], into: &mut Octets) -> Result<
 {
     put_key(fault, into)?;
     into.push_all(what)
+}
+
+// That a key is missing, and what its row has to have, or what is to stand there.
+fn put_missing(fault: &ConfigFault, key: &[u8], into: &mut Octets) -> Result<(), NoMemory>
+    ensures ok { OnOk result (Extends into.old into.new) }
+    ensures err { OnErr result (Extends into.old into.new) }
+{
+    match needed_at(key) {
+        Some(needed) => {
+            put_key_fault(fault, b" is missing: ", into)?;
+            into.push_all(needed)
+        }
+        None => put_asked(fault, b" is missing", key, into),
+    }
+}
+
+// That a key isn't known where it stands.
+fn put_strange(fault: &ConfigFault, key: &[u8], into: &mut Octets) -> Result<(), NoMemory>
+    ensures ok { OnOk result (Extends into.old into.new) }
+    ensures err { OnErr result (Extends into.old into.new) }
+{
+    match said_beside(key) {
+        Some(beside) => put_key_fault(fault, beside, into),
+        None => put_key_fault(fault, b" is no key of it", into),
+    }
 }
 
 // What is wrong with a key, and what may stand there.
@@ -138,8 +169,11 @@ fn put_behind(between: &[u8], text: &[u8], into: &mut Octets) -> Result<(), NoMe
     into.push_all(text)
 }
 
-// What may stand at a key. The tables with a name, and the rows of lists, have none.
+// What may stand at a key. The rows of lists, which have a number in place of a name, are tables.
 fn asked_at(name: &[u8]) -> Option<&'static [u8]> {
+    if name.first().is_some_and(u8::is_ascii_digit) {
+        return Some(b"a table");
+    }
     for (key, asked) in &ASKED {
         if *key == name {
             return Some(*asked);

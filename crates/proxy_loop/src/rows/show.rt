@@ -65,7 +65,14 @@ fn show_served<R: Print + AllocGlobal + Copy + Drop>(
     out: &[u8],
 ) -> io::Result<()> {
     let shown = show_status(&rt, served.status.code(), text(out));
-    tell_served(&Aloud::new(rt), served, case.config.as_slice(), None, None);
+    tell_served(
+        &Aloud::new(rt),
+        served,
+        case.words.as_slice(),
+        case.config.as_slice(),
+        None,
+        None,
+    );
     shown
 }
 
