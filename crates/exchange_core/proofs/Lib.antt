@@ -2,6 +2,7 @@ pub mod Advancing
 pub mod Aging
 pub mod Alone
 pub mod Before
+pub mod Behind
 pub mod Dooming
 pub mod Finding
 pub mod FlowSound

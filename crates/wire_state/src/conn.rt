@@ -196,9 +196,8 @@ impl Conn {
         ensures rest { self.new ≡ record self.old { windows = self.new.windows; credits = self.new.credits } }
         ensures go { conn_go self.new ≤ conn_go self.old }
     {
-        let n = self.at_most_held(exchange, n);
-        self.windows.recv.moved(exchange, n);
-        self.look_due(exchange)
+        let due = self.windows.recv.owe(exchange, n);
+        self.due_where(due, exchange)
     }
 
     /// Nothing may hold back the flow of the exchange from here: where its stream is due a WINDOW_UPDATE, that may be framed.
@@ -207,7 +206,17 @@ impl Conn {
         ensures rest { self.new ≡ record self.old { credits = self.new.credits } }
         ensures go { conn_go self.new ≡ conn_go self.old }
     {
-        if self.is_due(exchange) {
+        let due = self.is_due(exchange);
+        self.due_where(due, exchange)
+    }
+
+    // The stream of an exchange may be due a WINDOW_UPDATE, where `due` holds.
+    #[inline(always)]
+    fn due_where(&mut self, due: bool, exchange: u64) -> Result<(), NoMemory>
+        ensures rest { self.new ≡ record self.old { credits = self.new.credits } }
+        ensures go { conn_go self.new ≡ conn_go self.old }
+    {
+        if due {
             self.credits.reserve_one()?;
             self.credits.insert(exchange);
         }

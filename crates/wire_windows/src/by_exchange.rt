@@ -2,6 +2,7 @@
 ghost use Rattle.std.specs.FinMap.{empty, get, insert, len, remove};
 ghost use Rattle.std.specs.Prelude.{◌≡◌, ◌^◌, ◌<◌, IsSome, OnErr, OnOk};
 
+mod owing;
 mod shifts;
 
 use io_ports::NoMemory;

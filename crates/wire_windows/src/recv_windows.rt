@@ -1,6 +1,6 @@
 // The windows that this side grants.
 ghost use Rattle.std.specs.FinMap.{get};
-ghost use Rattle.std.specs.Prelude.{◌≡◌, ◌↔◌, ◌≤◌, IsOk, OnErr, OnOk, false, nat_le, true, List, nat_eq, sum_by, ℕ};
+ghost use Rattle.std.specs.Prelude.{◌≡◌, ◌↔◌, ◌≤◌, IsOk, OnErr, OnOk, false, min, nat_le, true, List, nat_eq, sum_by, ℕ};
 ghost use Rattle.h2_windows.specs.RecvWindow.{is_due};
 ghost use Rattle.wire_windows.specs.RecvWindows.{changed_at, left_in, on_window, received, IsSound, RecvWindows, held_at};
 ghost use Rattle.std.specs.List.{IsDistinct};
@@ -48,7 +48,7 @@ impl Model for RecvWindows {
 }
 
 impl RecvWindows {
-    ghost use Rattle.wire_windows.specs.RecvWindows.{IsNextDue, IsSound, arrival, begins, comes_late, counted, drops, ends, granting, grants, grants_conn, grants_first, held_at, is_begun, moves, owed_at, wastes};
+    ghost use Rattle.wire_windows.specs.RecvWindows.{IsNextDue, IsSound, arrival, begins, comes_late, counted, drops, ends, granting, grants, grants_conn, grants_first, held_at, is_begun, is_due_at, moves, owed_at, wastes};
 
     /// The windows of a new connection. The peer begins with 65,535 octets, and the first WINDOW_UPDATE of the connection
     /// is to grant the exact difference to `connection_window`; the peer is held to `connection_window` from the start.
@@ -149,6 +149,24 @@ impl RecvWindows {
         self.conn.moved(n);
         self.streams.set(x, stream);
         self.due.mark(x, stream.is_due());
+    }
+
+    /// n octets left the receive buffer of the stream, of which at most those that it holds count: they are owed to it and to
+    /// the connection. Answers whether a WINDOW_UPDATE of the stream is due then. The stream is looked up once.
+    #[inline(always)]
+    pub fn owe(&mut self, x: u64, n: u32) -> bool
+        ensures moves { self.new ≡ moves x (min n (held_at x self.old)) self.old }
+        ensures due { result ≡ is_due_at x self.new }
+        ensures before { IsSound self.old }
+        ensures sound { IsSound self.new }
+    {
+        let Some((stream, n)) = self.streams.owe(x, n) else {
+            return false;
+        };
+        self.conn.moved(n);
+        let due = stream.is_due();
+        self.due.mark(x, due);
+        due
     }
 
     /// n octets that came on the stream are padding: they enter no buffer, and are owed to it and to the connection.

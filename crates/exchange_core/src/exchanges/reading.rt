@@ -107,7 +107,7 @@ impl Exchanges {
         ensures { result ≡ option_map_or (λ f. nat_lt 0 (held_by f)) (flow_at self.now flow) false }
     {
         match self.find(flow) {
-            Some(flow) => flow.held() > 0,
+            Some(flow) => flow.holds(),
             None => false,
         }
     }

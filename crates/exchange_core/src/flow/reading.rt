@@ -1,5 +1,5 @@
 // What is read off a flow: what its places hold, and how many there are.
-ghost use Rattle.std.specs.Prelude.{◌≡◌, ◌-◌, ◌<◌, ◌^◌, length};
+ghost use Rattle.std.specs.Prelude.{◌≡◌, ◌-◌, ◌<◌, ◌^◌, length, nat_lt};
 ghost use Rattle.exchange_core.specs.Flow.{held_by, meters_hold, stages_of};
 ghost use Rattle.filter_chain.specs.Release.{is_source_at};
 
@@ -17,6 +17,14 @@ impl Flow {
             held += u64::from(self.chain.len(index + 1));
         }
         held
+    }
+
+    /// Whether some place holds octets. Mostly the receive buffer does, where any does.
+    #[inline(always)]
+    pub(crate) fn holds(&self) -> bool
+        ensures { result ≡ nat_lt 0 (held_by self.now) }
+    {
+        !self.recv.is_empty() || self.held() > 0
     }
 
     /// Whether some Meter holds octets.

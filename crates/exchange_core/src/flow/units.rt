@@ -1,10 +1,10 @@
 // What of a flow goes next into a write buffer, and its frames.
-ghost use Rattle.std.specs.Prelude.{◌≡◌, ◌+◌, ◌≤◌, ◌++◌, false, IfOk, IsOk, OnOk, OnErr, length, take};
+ghost use Rattle.std.specs.Prelude.{◌≡◌, ◌+◌, ◌≤◌, ◌++◌, false, true, IfOk, IsOk, IsTrue, OnOk, OnErr, length, take};
 ghost use Rattle.std.specs.Option.{option_copied};
 ghost use Rattle.exchange_core.specs.Effects.{body_framed, list_framed};
 ghost use Rattle.exchange_core.specs.Flow.{IsSound, last_place, send};
 ghost use Rattle.exchange_core.specs.Message.{fields_of, head_waits};
-ghost use Rattle.exchange_core.specs.Units.{IsFrameable, carried, empty_before, ends_after, next_head, next_unit};
+ghost use Rattle.exchange_core.specs.Units.{IsFrameable, carried, carries_end, empty_before, ends_after, next_head, next_unit};
 ghost use Rattle.filter_chain.specs.Chain.{above_at};
 ghost use Rattle.wm_buffer.specs.Buffer.{AppendsOctets};
 ghost use Rattle.wm_buffer.specs.Watermark.{crossing};
@@ -144,6 +144,7 @@ impl Flow {
     ) -> Result<(Shifted, Unit), NoMemory>
         requires headed { head_waits self.old.message ≡ false }
         requires octets { piece.n ≤ length (send self.old) }
+        requires all { piece.last ≡ true → IsTrue (carries_end piece.n self.old) }
         ensures frames { OnOk result (self.new ≡ body_framed piece.n piece.last self.old) }
         ensures appends { OnOk result (AppendsOctets out.old out.new (head.now ++ take piece.n (send self.old))) }
         ensures from { IfOk result (λ framed. framed.0.from ≡ crossing (above_at self.old.chain (last_place self.old)) (above_at self.new.chain (last_place self.new))) }
@@ -155,6 +156,10 @@ impl Flow {
         ensures err { OnErr result ((self.new ≡ self.old) × (out.new ≡ out.old)) }
     {
         let shifted = self.frame_body(out, head, piece.n, piece.last)?;
+        if piece.last {
+            // Nothing is behind the end.
+            return Ok((shifted, Unit::Nothing));
+        }
         Ok((shifted, self.next_unit(room, frame)))
     }
 }

@@ -10,13 +10,13 @@ use Rattle.exchange_core.specs.Effects.{body_framed}
 use Rattle.exchange_core.specs.Exchanges.{flow_at}
 use Rattle.exchange_core.specs.Flow.{Flow, send, meters_hold}
 use Rattle.exchange_core.specs.Message.{head_waits}
-use Rattle.exchange_core.specs.Units.{IsFrameable, next_unit}
+use Rattle.exchange_core.specs.Units.{IsFrameable, carries_end, next_unit}
 use Rattle.exchange_core.specs.View.{IsKept, exchanges_of}
 use Rattle.exchange_core.specs.declared.exchanges.Exchanges.TheInside.{Inside}
 use Rattle.std.proofs.Common.{ap, sym, w64, ◌∙◌}
 use Rattle.std.proofs.lemmas.Int.{to_z-of_z}
 use Rattle.std.specs.Option.{option_copied_mut}
-use Rattle.std.specs.Prelude.{OnOk, Some, false, length, option_map, take, ◌++◌, ◌≡◌, ◌≤◌}
+use Rattle.std.specs.Prelude.{IsTrue, OnOk, Some, false, length, option_map, take, ◌++◌, ◌≡◌, ◌≤◌}
 use Rattle.wm_buffer.specs.Buffer.{AppendsOctets}
 use mir.Val.{of_z, to_z}
 
@@ -32,6 +32,9 @@ frame_unit-requires-clause-headed c = seen_says (λ f. head_waits f.message ≡ 
 
 pub frame_unit-requires-clause-octets : goal.frame_unit-requires-clause-octets
 frame_unit-requires-clause-octets c = seen_says (λ f. c.args.piece.n ≤ length (send f)) c.self.inside c.args.flow c.in-Some.ensures.value c.in-Some-touch.ensures.value (rw (← c.self.view_is) at c.requires.octets)
+
+pub frame_unit-requires-clause-all : goal.frame_unit-requires-clause-all
+frame_unit-requires-clause-all c = λ last. seen_says (λ f. IsTrue (carries_end c.args.piece.n f)) c.self.inside c.args.flow c.in-Some.ensures.value c.in-Some-touch.ensures.value ((rw (← c.self.view_is) at c.requires.all) last)
 
 lends : (c : goal.After-self-2-1) → Lent c.self.inside c.get_mut.follows.lender c.args.flow c.in-Some.exchange.now c.in-Some-touch.flow.now c.frame_unit.new.self
 lends c = record { kept = c.self.invariant; is = c.in-Some.ensures.value; there = c.in-Some-touch.ensures.value; sound = c.frame_unit.ensures.sound; through = c.get_mut.follows.holds _ }

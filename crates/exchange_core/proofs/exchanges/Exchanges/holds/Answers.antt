@@ -5,7 +5,7 @@ use Rattle.std.proofs.Common.{ap, sym, ◌∙◌}
 use Rattle.std.specs.Prelude.{None, Some, false, nat_lt}
 
 pub returns-in-Some : goal.returns-in-Some
-returns-in-Some c = ap (nat_lt 0) c.held.ensures.held
+returns-in-Some c = c.holds.ensures
     ∙ sym (read_or (λ f. nat_lt 0 (held_by f)) (λ now flow. ap (nat_lt 0) (held_seen now flow)) false (Some c.in-Some.flow.now) _ c.in-Some.ensures)
 
 pub returns-in-None : goal.returns-in-None
