@@ -7,6 +7,7 @@ ghost use Rattle.h2_session.specs.Summary.{StandsFor, noted};
 ghost use Rattle.h2_session.specs.Table.{stream_at};
 
 mod acts;
+mod data;
 mod errors;
 mod heads;
 

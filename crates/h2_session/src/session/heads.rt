@@ -10,14 +10,14 @@ ghost use Rattle.h2_session.specs.Happened.{Happening};
 ghost use Rattle.h2_session.specs.Summary.{EndsBlock, FinishesBlock, StandsFor, Takes};
 
 use super::Session;
-use super::acts::put_error;
+use super::data::put_error;
 use crate::act::Act;
 use crate::block::HeaderBlock;
 use crate::streams::Stream;
 use h2_frames::codes::{PROTOCOL_ERROR, REFUSED_STREAM, STREAM_CLOSED};
 use io_ports::{NoMemory, Octets};
 
-// What a whole block means on a stream that is open, in a state, or isn't.
+// What a whole block means on a stream that is open, in a state, or isn't, is put into `into`.
 #[inline(always)]
 fn block_act(state: Option<Stream>, stream: u32, last: bool, block: Octets, into: &mut Act)
     ensures { into.new ≡ block_act (record { stream = stream; last = last; octets = block; frames = 1 }) state }
