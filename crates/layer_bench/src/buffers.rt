@@ -1,5 +1,5 @@
 // Octets through two watermark buffers, beside the same octets copied twice by plain slice copies.
-use anyhow::{bail, ensure};
+use anyhow::ensure;
 use bench_parts::{CpuStopwatch, Line, per_second};
 use io_ports::NoMemory;
 use std::alloc::{AllocError, Global};
@@ -71,9 +71,7 @@ impl Moving {
     /// The same, and adds the processor time that it took.
     fn timed_round(&mut self, clock: &impl CpuClock, piece: &[u8]) -> anyhow::Result<u64> {
         let watch = CpuStopwatch::start(clock)?;
-        let Ok(moved) = self.round(piece) else {
-            bail!("out of memory");
-        };
+        let moved = self.round(piece)?;
         self.nanos = self.nanos.saturating_add(watch.nanos(clock)?);
         Ok(moved)
     }
@@ -136,9 +134,7 @@ fn block(alloc: Global, octet: u8) -> Result<Vec<u8>, AllocError> {
 /// Moves and copies in turn, and prints how many octets each does in a second of processor time.
 pub fn run(rt: &(impl AllocGlobal + Print + CpuClock)) -> anyhow::Result<()> {
     let piece = block(rt.alloc(), 7)?;
-    let Ok(mut moving) = Moving::new(rt.alloc()) else {
-        bail!("out of memory");
-    };
+    let mut moving = Moving::new(rt.alloc())?;
     let end = beside(rt, &mut moving, piece.as_slice());
     drop(moving);
     end

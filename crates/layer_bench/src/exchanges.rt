@@ -1,7 +1,7 @@
 // Exchanges that start, are used once and are doomed, while one and while many others live.
 ghost use Rattle.proxy_config.specs.Ranges.{IsInRange};
 
-use anyhow::{anyhow, bail, ensure};
+use anyhow::ensure;
 use bench_parts::{CpuStopwatch, Line, per_second};
 use exchange_core::{Exchanges, StartSpec, Step};
 use flow_gate::{FlowId, Gates};
@@ -149,10 +149,10 @@ impl Side {
     {
         let watch = CpuStopwatch::start(clock)?;
         for _use in 0..USES_A_ROUND {
-            let went = self
-                .use_one(config, octets)
-                .map_err(|_| anyhow!("out of memory"))?;
-            ensure!(went, "an exchange did not come and go");
+            ensure!(
+                self.use_one(config, octets)?,
+                "an exchange did not come and go"
+            );
         }
         self.nanos = self.nanos.saturating_add(watch.nanos(clock)?);
         Ok(())
@@ -172,12 +172,11 @@ fn start_both(one: &mut Side, many: &mut Side, config: &Config) -> Result<(), No
 
 fn report(rt: &(impl Print + AllocGlobal), one: u64, many: u64) -> anyhow::Result<()> {
     let mut line = Line::new(rt.alloc());
-    for (living, rate) in [(ONE, one), (MANY, many)] {
-        line.say_with("", living);
-        line.say_with(" live: ", rate);
-        line.say(" calls in a second of processor time\n");
-    }
-    line.say_with("a call with ", MANY);
+    line.say_with("", ONE);
+    line.say_with(" live: ", one);
+    line.say_with(" calls in a second of processor time\n", MANY);
+    line.say_with(" live: ", many);
+    line.say_with(" calls in a second of processor time\na call with ", MANY);
     line.say_times(" live exchanges costs ", one, many);
     line.say_with(" times one with ", ONE);
     Ok(line.print(rt)?)
@@ -202,16 +201,16 @@ fn take_turns(
 
 /// Uses exchanges on both sides in turns, and prints how many calls each does in a second of processor time.
 pub fn run(rt: &(impl AllocGlobal + Print + CpuClock)) -> anyhow::Result<()> {
-    match Config::of_defaults(rt.alloc()) {
-        Ok(config) => measure(rt, &config),
-        Err(_) => bail!("out of memory"),
-    }
+    let config = Config::of_defaults(rt.alloc())?;
+    let end = measure(rt, &config);
+    drop(config);
+    end
 }
 
 fn measure(rt: &(impl AllocGlobal + Print + CpuClock), config: &Config) -> anyhow::Result<()>
     requires { IsInRange config.now }
 {
-    let octets = Octets::from_slice(rt.alloc(), &[7; 10]).map_err(|_| anyhow!("out of memory"))?;
+    let octets = Octets::from_slice(rt.alloc(), &[7; 10])?;
     let mut one = Side::new(rt.alloc());
     let mut many = Side::new(rt.alloc());
     let end = measure_both(rt, config, &octets, &mut one, &mut many);
@@ -230,7 +229,7 @@ fn measure_both(
 ) -> anyhow::Result<()>
     requires { IsInRange config.now }
 {
-    start_both(one, many, config).map_err(|_| anyhow!("out of memory"))?;
+    start_both(one, many, config)?;
     take_turns(rt, config, octets, one, many)?;
     report(rt, one.calls_per_second(), many.calls_per_second())
 }

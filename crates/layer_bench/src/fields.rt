@@ -1,4 +1,5 @@
 // Stories of field blocks, decoded, and a list of ten ordinary request fields, encoded.
+use crate::report::tell;
 use anyhow::{Result, bail, ensure};
 use bench_parts::{CpuStopwatch, per_second};
 use hpack_codec::{Decoder, Encoder, FieldList};
@@ -78,10 +79,7 @@ fn encode_turn(encoder: &mut Encoder, list: &FieldList) -> Result<u64> {
     ensure!(list.has_spelling(), "a field has no spelling");
     let mut sum = 0u64;
     for _ in 0..TURN {
-        let Ok(block) = encoder.encode(list) else {
-            bail!("out of memory");
-        };
-        sum = sum.wrapping_add(block.len() as u64);
+        sum = sum.wrapping_add(encoder.encode(list)?.len() as u64);
     }
     Ok(sum)
 }
@@ -151,12 +149,12 @@ fn show_stories(rt: &impl Print) -> Result<()> {
 }
 
 fn show_story(rt: &impl Print, name: &str, text: &str) -> Result<()> {
-    print!(rt; "{name}")?;
+    rt.print(name)?;
     for _ in 0..AGAIN {
-        print!(rt; " {text}")?;
+        rt.print(" ")?;
+        rt.print(text)?;
     }
-    println!(rt; "")?;
-    Ok(())
+    Ok(rt.println("")?)
 }
 
 /// Decodes the stories of the standard input: each line has a name, and blocks in hexadecimal.
@@ -189,8 +187,11 @@ fn run_again(rt: &(impl Print + CpuClock + AllocGlobal), name: &str, text: &str)
 fn run_encoded(rt: &(impl Print + CpuClock + AllocGlobal), text: &str) -> Result<()> {
     let block = hex::decode(rt.alloc(), text)?;
     let (rate, octets) = encode_rate(rt, rt.alloc(), block.as_slice())?;
-    println!(rt; "hpack_codec encode: {rate} blocks a second, {octets} octets each")?;
-    Ok(())
+    let numbers = [
+        ("hpack_codec encode: ", rate),
+        (" blocks a second, ", octets),
+    ];
+    tell(rt, &numbers, " octets each")
 }
 
 fn run_blocks(rt: &(impl Print + CpuClock + AllocGlobal)) -> Result<()> {
@@ -201,10 +202,10 @@ fn run_blocks(rt: &(impl Print + CpuClock + AllocGlobal)) -> Result<()> {
 
 /// Prints the rates of the two blocks and of the stories of the standard input, or the blocks as
 /// stories for another program.
-pub fn run(rt: &(impl Print + CpuClock + AllocGlobal + Input), word: Option<&str>) -> Result<()> {
+pub fn run(rt: &(impl Print + CpuClock + AllocGlobal + Input), word: &str) -> Result<()> {
     match word {
-        Some("blocks") => show_stories(rt),
-        Some("stories") => run_stories(rt),
+        "blocks" => show_stories(rt),
+        "stories" => run_stories(rt),
         _ => run_blocks(rt),
     }
 }

@@ -1,6 +1,6 @@
 // How fast frames are read.
-use anyhow::bail;
-use bench_parts::{Line, Stopwatch, per_second};
+use crate::report::tell;
+use bench_parts::{Stopwatch, per_second};
 use h2_frames::{Frame, ReadFrame, frame_head, read_frame};
 use io_ports::{NoMemory, Octets};
 use std::alloc::Global;
@@ -12,14 +12,18 @@ const LARGE_FRAMES: u32 = 64;
 
 const ROUNDS: u32 = 200;
 
+/// Appends a frame's head and its payload.
+pub fn push_frame(into: &mut Octets, head: [u8; 9], payload: &[u8]) -> Result<(), NoMemory> {
+    into.push_all(&head)?;
+    into.push_all(payload)
+}
+
 // WINDOW_UPDATE and HEADERS of 40 octets in turn.
 fn small_frames(alloc: Global) -> Result<Octets, NoMemory> {
     let mut into = Octets::new(alloc);
     for _ in 0..SMALL_PAIRS {
-        into.push_all(&frame_head(4, 8, 0, 1))?;
-        into.push_all(&1024u32.to_be_bytes())?;
-        into.push_all(&frame_head(40, 1, 4, 1))?;
-        into.push_all(&[0x82; 40])?;
+        push_frame(&mut into, frame_head(4, 8, 0, 1), &1024u32.to_be_bytes())?;
+        push_frame(&mut into, frame_head(40, 1, 4, 1), &[0x82; 40])?;
     }
     Ok(into)
 }
@@ -28,8 +32,7 @@ fn small_frames(alloc: Global) -> Result<Octets, NoMemory> {
 fn large_frames(alloc: Global) -> Result<Octets, NoMemory> {
     let mut into = Octets::new(alloc);
     for _ in 0..LARGE_FRAMES {
-        into.push_all(&frame_head(16384, 0, 0, 1))?;
-        into.push_all(&[7; 16384])?;
+        push_frame(&mut into, frame_head(16384, 0, 0, 1), &[7; 16384])?;
     }
     Ok(into)
 }
@@ -78,9 +81,7 @@ fn time_copying(rt: &impl Clock, octets: &[u8], copy: &mut Octets) -> anyhow::Re
     let watch = Stopwatch::start(rt)?;
     for _ in 0..ROUNDS {
         copy.clear();
-        if copy.push_all(octets).is_err() {
-            bail!("no memory");
-        }
+        copy.push_all(octets)?;
     }
     let copied = u64::from(ROUNDS).wrapping_mul(octets.len() as u64);
     Ok(per_second(copied, watch.nanos(rt)?))
@@ -88,43 +89,27 @@ fn time_copying(rt: &impl Clock, octets: &[u8], copy: &mut Octets) -> anyhow::Re
 
 fn report(
     rt: &(impl Print + Clock + AllocGlobal),
-    name: &str,
+    frames: &str,
     octets: &[u8],
 ) -> anyhow::Result<()> {
     let (rate, sum) = time_reading(rt, octets)?;
     let copy_rate = time_copying(rt, octets, &mut Octets::new(rt.alloc()))?;
-    tell(rt, name, rate, sum, copy_rate)
-}
-
-fn tell(
-    rt: &(impl Print + AllocGlobal),
-    name: &str,
-    rate: u64,
-    sum: u64,
-    copy_rate: u64,
-) -> anyhow::Result<()> {
-    let mut line = Line::new(rt.alloc());
-    line.say("frames: ");
-    line.say(name);
-    line.say_with(": ", rate);
-    line.say_with(" frames a second (sum ", sum);
-    line.say_with("); a plain copy takes ", copy_rate);
-    line.say(" octets a second");
-    Ok(line.print(rt)?)
+    let numbers = [
+        (frames, rate),
+        (" frames a second (sum ", sum),
+        ("); a plain copy takes ", copy_rate),
+    ];
+    tell(rt, &numbers, " octets a second")
 }
 
 /// Reads a stream of small frames and one of large ones.
 pub fn run(rt: &(impl Print + Clock + AllocGlobal)) -> anyhow::Result<()> {
-    let Ok(small) = small_frames(rt.alloc()) else {
-        bail!("no memory");
-    };
+    let small = small_frames(rt.alloc())?;
     report(
         rt,
-        "WINDOW_UPDATE and HEADERS of 40 octets",
+        "frames: WINDOW_UPDATE and HEADERS of 40 octets: ",
         small.as_slice(),
     )?;
-    let Ok(large) = large_frames(rt.alloc()) else {
-        bail!("no memory");
-    };
-    report(rt, "DATA of 16,384 octets", large.as_slice())
+    let large = large_frames(rt.alloc())?;
+    report(rt, "frames: DATA of 16,384 octets: ", large.as_slice())
 }

@@ -1,7 +1,7 @@
 // Calls of the gates while few and while many flows are open.
 ghost use Rattle.std.specs.Prelude.{◌≤◌};
 
-use anyhow::{anyhow, ensure};
+use anyhow::ensure;
 use bench_parts::{CpuStopwatch, Line, per_second};
 use flow_gate::{BufferId, FlowId, Gates};
 use io_ports::NoMemory;
@@ -149,7 +149,7 @@ fn measure(
     some: &mut Side,
     many: &mut Side,
 ) -> anyhow::Result<()> {
-    open_all(few, some, many).map_err(|_| anyhow!("out of memory"))?;
+    open_all(few, some, many)?;
     take_turns(rt, few, some, many)?;
     report(
         rt,
@@ -176,12 +176,13 @@ fn take_turns(
 
 fn report(rt: &(impl Print + AllocGlobal), few: u64, some: u64, many: u64) -> anyhow::Result<()> {
     let mut line = Line::new(rt.alloc());
-    for (flows, rate) in [(FEW, few), (SOME, some), (MANY, many)] {
-        line.say_with("", flows);
-        line.say_with(" flows: ", rate);
-        line.say(" calls in a second of processor time\n");
-    }
-    line.say_with("a call at ", MANY);
+    line.say_with("", FEW);
+    line.say_with(" flows: ", few);
+    line.say_with(" calls in a second of processor time\n", SOME);
+    line.say_with(" flows: ", some);
+    line.say_with(" calls in a second of processor time\n", MANY);
+    line.say_with(" flows: ", many);
+    line.say_with(" calls in a second of processor time\na call at ", MANY);
     line.say_times(" flows costs ", few, many);
     line.say_with(" times one at ", FEW);
     Ok(line.print(rt)?)

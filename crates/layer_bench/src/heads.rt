@@ -1,6 +1,6 @@
 // Checks of a request's head, beside decoding its block.
 use crate::copies::{FRAMES_A_ROUND, ROUNDS};
-use crate::report::report_count;
+use crate::report::{report_count, tell};
 use crate::requests::large_request;
 use anyhow::ensure;
 use bench_parts::CpuStopwatch;
@@ -81,26 +81,10 @@ fn time_checks(
 }
 
 /// Nanoseconds of all rounds of decoding, and of those with checks, which come in turn.
-#[derive(Drop)]
+#[derive(Clone, Copy)]
 struct Times {
     decoding: u64,
     with_checks: u64,
-}
-
-impl Times {
-    fn round(
-        &mut self,
-        rt: &impl CpuClock,
-        decoder: &mut Decoder,
-        block: &[u8],
-        fields: u64,
-    ) -> anyhow::Result<()> {
-        let decoding = time_decoding(rt, decoder, block, fields)?;
-        let with_checks = time_checks(rt, decoder, block, fields)?;
-        self.decoding = self.decoding.saturating_add(decoding);
-        self.with_checks = self.with_checks.saturating_add(with_checks);
-        Ok(())
-    }
 }
 
 fn time_all(
@@ -114,7 +98,10 @@ fn time_all(
         with_checks: 0,
     };
     for _round in 0..ROUNDS {
-        times.round(rt, decoder, block, fields)?;
+        let decoding = time_decoding(rt, decoder, block, fields)?;
+        times.decoding = times.decoding.saturating_add(decoding);
+        let with_checks = time_checks(rt, decoder, block, fields)?;
+        times.with_checks = times.with_checks.saturating_add(with_checks);
     }
     Ok(times)
 }
@@ -124,8 +111,11 @@ fn report(rt: &(impl AllocGlobal + Print), times: Times) -> anyhow::Result<()> {
     report_count(rt, "heads decoded and checked", times.with_checks)?;
     let checks = times.with_checks.saturating_sub(times.decoding);
     let percent = checks.saturating_mul(100) / times.decoding.max(1);
-    println!(rt; "a check takes {percent} percent of the time of decoding")?;
-    Ok(())
+    tell(
+        rt,
+        &[("a check takes ", percent)],
+        " percent of the time of decoding",
+    )
 }
 
 /// Prints how many heads are decoded, and how many are decoded and checked, in a second of processor time.

@@ -36,10 +36,9 @@ fn new_inlet(alloc: Global) -> Inlet {
 
 /// Takes one frame, and answers its flow-controlled octets.
 fn take(inlet: &mut Inlet) -> anyhow::Result<u64> {
-    match inlet.next(PIECE) {
-        Ok(Intake::Taken(taken)) => Ok(u64::from(taken.content)),
-        Ok(_) => bail!("a frame wasn't taken"),
-        Err(_) => bail!("out of memory"),
+    match inlet.next(PIECE)? {
+        Intake::Taken(taken) => Ok(u64::from(taken.content)),
+        _ => bail!("a frame wasn't taken"),
     }
 }
 
@@ -113,20 +112,7 @@ fn time_data(rt: &impl CpuClock, inlet: &mut Inlet, frame: &Octets) -> anyhow::R
     Ok(nanos)
 }
 
-/// A round of DATA frames, and one of plain copies.
-fn data_round(
-    rt: &impl CpuClock,
-    inlet: &mut Inlet,
-    frame: &Octets,
-    copies: &mut Copies,
-    spent: &mut Spent,
-) -> anyhow::Result<()> {
-    let taking = time_data(rt, inlet, frame)?;
-    let (_sum, copying) = copies.round(rt)?;
-    spent.add(taking, copying);
-    Ok(())
-}
-
+/// Rounds of DATA frames, each with one of plain copies.
 fn data_rounds(
     rt: &impl CpuClock,
     inlet: &mut Inlet,
@@ -135,7 +121,8 @@ fn data_rounds(
 ) -> anyhow::Result<Spent> {
     let mut spent = Spent::none();
     for _round in 0..ROUNDS {
-        data_round(rt, inlet, frame, copies, &mut spent)?;
+        let taking = time_data(rt, inlet, frame)?;
+        spent.add(taking, copies.round(rt)?.1);
     }
     Ok(spent)
 }

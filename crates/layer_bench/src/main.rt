@@ -40,27 +40,35 @@ fn main(rt: HostRuntime) -> anyhow::Result<()> {
     let _program = words.next();
     let bench = words.next();
     let word = words.next();
-    run(&rt, bench.as_deref(), word.as_deref())
+    run(
+        &rt,
+        bench.as_deref().unwrap_or(""),
+        word.as_deref().unwrap_or(""),
+    )
 }
 
-// Runs the bench of this name. Without one it prints the usage.
+// Runs the bench of this name. Where there is none it prints the usage.
 fn run<R: AllocGlobal + Clock + CpuClock + Print + Input>(
     rt: &R,
-    bench: Option<&str>,
-    word: Option<&str>,
+    bench: &str,
+    word: &str,
 ) -> anyhow::Result<()> {
     match bench {
-        Some("buffer") => buffers::run(rt),
-        Some("exchanges") => exchanges::run(rt),
-        Some("fields") => fields::run(rt, word),
-        Some("frames") => frames::run(rt),
-        Some("gates") => gates::run(rt),
-        Some("heads") => heads::run(rt),
-        Some("inlet") => inlet::run(rt),
-        Some("notes") => notes::run(rt),
-        Some("outlet") => outlet::run(rt),
-        Some("session") => sessions::run(rt),
-        Some("timers") => timers::run(rt),
-        _ => Ok(rt.print(USAGE)?),
+        "buffer" => buffers::run(rt),
+        "exchanges" => exchanges::run(rt),
+        "fields" => fields::run(rt, word),
+        "frames" => frames::run(rt),
+        "gates" => gates::run(rt),
+        "heads" => heads::run(rt),
+        "inlet" => inlet::run(rt),
+        "notes" => notes::run(rt),
+        "outlet" => outlet::run(rt),
+        "session" => sessions::run(rt),
+        "timers" => timers::run(rt),
+        _ => usage(rt),
     }
+}
+
+fn usage(rt: &impl Print) -> anyhow::Result<()> {
+    Ok(rt.print(USAGE)?)
 }

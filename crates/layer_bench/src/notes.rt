@@ -1,8 +1,8 @@
 // How fast notes are written and read.
 ghost use Rattle.flow_notes.specs.Note.{IsNote};
 
-use anyhow::bail;
-use bench_parts::{CpuStopwatch, Line, per_second};
+use crate::report::tell;
+use bench_parts::{CpuStopwatch, per_second};
 use flow_notes::{Names, Note, note_text, read_note};
 use io_ports::{NoMemory, Octets};
 use memchr::memchr_iter;
@@ -116,9 +116,7 @@ fn time_writing(
 ) -> anyhow::Result<u64> {
     text.clear();
     let watch = CpuStopwatch::start(rt)?;
-    if write_lines(rt.alloc(), lines, copies, names, text).is_err() {
-        bail!("no memory");
-    }
+    write_lines(rt.alloc(), lines, copies, names, text)?;
     Ok(per_second(text.len() as u64, watch.nanos(rt)?))
 }
 
@@ -129,9 +127,7 @@ fn time_reading(
     names: &Names,
 ) -> anyhow::Result<(u64, u64)> {
     let watch = CpuStopwatch::start(rt)?;
-    let Ok(notes) = read_lines(rt.alloc(), text, names) else {
-        bail!("no memory");
-    };
+    let notes = read_lines(rt.alloc(), text, names)?;
     Ok((notes, per_second(text.len() as u64, watch.nanos(rt)?)))
 }
 
@@ -139,66 +135,57 @@ fn time_reading(
 fn time_copy(rt: &impl CpuClock, text: &[u8], copy: &mut Octets) -> anyhow::Result<u64> {
     copy.clear();
     let watch = CpuStopwatch::start(rt)?;
-    if copy.push_all(text).is_err() {
-        bail!("no memory");
-    }
+    copy.push_all(text)?;
     Ok(per_second(text.len() as u64, watch.nanos(rt)?))
 }
 
 fn time_copying(rt: &(impl CpuClock + AllocGlobal), text: &[u8]) -> anyhow::Result<u64> {
-    let mut copy = Octets::new(rt.alloc());
-    if copy.push_all(text).is_err() {
-        bail!("no memory");
-    }
+    let mut copy = Octets::from_slice(rt.alloc(), text)?;
     time_copy(rt, text, &mut copy)
 }
 
 fn report(
     rt: &(impl Print + CpuClock + AllocGlobal),
-    name: &str,
+    notes: &str,
     lines: &[Octets],
     copies: u32,
 ) -> anyhow::Result<()> {
     let names = Names::new(rt.alloc());
     let mut text = Octets::new(rt.alloc());
     // The first run makes the room that the one measured writes into.
-    if write_lines(rt.alloc(), lines, copies, &names, &mut text).is_err() {
-        bail!("no memory");
-    }
-    report_on(rt, name, lines, copies, &names, &mut text)
+    write_lines(rt.alloc(), lines, copies, &names, &mut text)?;
+    report_on(rt, notes, lines, copies, &names, &mut text)
 }
 
 fn report_on(
     rt: &(impl Print + CpuClock + AllocGlobal),
-    name: &str,
+    notes: &str,
     lines: &[Octets],
     copies: u32,
     names: &Names,
     text: &mut Octets,
 ) -> anyhow::Result<()> {
     let written = time_writing(rt, lines, copies, names, text)?;
-    let (notes, read) = time_reading(rt, text.as_slice(), names)?;
-    let copied = time_copying(rt, text.as_slice())?;
-    let mut line = Line::new(rt.alloc());
-    line.say("notes: ");
-    line.say(name);
-    line.say_with(": ", notes);
-    line.say_with(" notes in ", text.len() as u64);
-    line.say_with(" octets; octets a second: ", written);
-    line.say_with(" written, ", read);
-    line.say_with(" read, ", copied);
-    line.say(" by a plain copy");
-    Ok(line.print(rt)?)
+    let (count, read) = time_reading(rt, text.as_slice(), names)?;
+    let numbers = [
+        (notes, count),
+        (" notes in ", text.len() as u64),
+        (" octets; octets a second: ", written),
+        (" written, ", read),
+        (" read, ", time_copying(rt, text.as_slice())?),
+    ];
+    tell(rt, &numbers, " by a plain copy")
 }
 
 /// Writes and reads a million small notes, and notes of 16,384 octets in 256 MiB of text.
 pub fn run(rt: &(impl Print + CpuClock + AllocGlobal)) -> anyhow::Result<()> {
-    let Ok(small) = small_lines(rt.alloc()) else {
-        bail!("no memory");
-    };
-    report(rt, "small", small.as_slice(), SMALL_COPIES)?;
-    let Ok(body) = body_line(rt.alloc()) else {
-        bail!("no memory");
-    };
-    report(rt, "bodies of 16,384 octets", body.as_slice(), BODY_COPIES)
+    let small = small_lines(rt.alloc())?;
+    report(rt, "notes: small: ", small.as_slice(), SMALL_COPIES)?;
+    let body = body_line(rt.alloc())?;
+    report(
+        rt,
+        "notes: bodies of 16,384 octets: ",
+        body.as_slice(),
+        BODY_COPIES,
+    )
 }

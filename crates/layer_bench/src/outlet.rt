@@ -69,21 +69,7 @@ fn time_data(
     Ok((sum, watch.nanos(rt)?))
 }
 
-/// A round of DATA frames, and one of plain copies.
-fn data_round(
-    rt: &impl CpuClock,
-    outlet: &mut Outlet,
-    send: &mut WatermarkBuffer,
-    copies: &mut Copies,
-    spent: &mut Spent,
-) -> anyhow::Result<()> {
-    let (framed, framing) = time_data(rt, outlet, send, copies.piece.as_slice())?;
-    let (copied, copying) = copies.round(rt)?;
-    ensure!(framed == copied, "other octets go out");
-    spent.add(framing, copying);
-    Ok(())
-}
-
+/// Rounds of DATA frames, each with one of plain copies.
 fn data_rounds(
     rt: &impl CpuClock,
     outlet: &mut Outlet,
@@ -92,7 +78,10 @@ fn data_rounds(
 ) -> anyhow::Result<Spent> {
     let mut spent = Spent::none();
     for _round in 0..ROUNDS {
-        data_round(rt, outlet, send, copies, &mut spent)?;
+        let (framed, framing) = time_data(rt, outlet, send, copies.piece.as_slice())?;
+        let (copied, copying) = copies.round(rt)?;
+        ensure!(framed == copied, "other octets go out");
+        spent.add(framing, copying);
     }
     Ok(spent)
 }
@@ -104,8 +93,10 @@ fn play_data(
 ) -> anyhow::Result<()> {
     let mut copies = Copies::new(rt.alloc())?;
     let mut send = WatermarkBuffer::new(rt.alloc(), UNIT);
-    let spent = data_rounds(rt, outlet, &mut send, &mut copies)?;
-    report_octets(rt, "DATA frames framed", spent)
+    let spent = data_rounds(rt, outlet, &mut send, &mut copies);
+    drop(send);
+    drop(copies);
+    report_octets(rt, "DATA frames framed", spent?)
 }
 
 /// Encodes and frames one head, which leaves. Answers its first octet.

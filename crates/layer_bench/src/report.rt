@@ -1,9 +1,9 @@
 // How figures are told.
 use crate::copies::{FRAMES_A_ROUND, PIECE, ROUNDS};
-use bench_parts::{Line, per_second};
+use bench_parts::{Line, per_second, print_line};
 
 /// The nanoseconds that the frames of all rounds took, and those that plain copies of their octets took.
-#[derive(Drop)]
+#[derive(Clone, Copy)]
 pub struct Spent {
     pub frames: u64,
     pub copies: u64,
@@ -22,6 +22,15 @@ impl Spent {
         self.frames = self.frames.saturating_add(frames);
         self.copies = self.copies.saturating_add(copies);
     }
+}
+
+/// Prints a line of numbers, each behind its words, and the words at its end.
+pub fn tell(
+    rt: &(impl AllocGlobal + Print),
+    numbers: &[(&str, u64)],
+    end: &str,
+) -> anyhow::Result<()> {
+    Ok(print_line(rt, numbers, end)?)
 }
 
 /// Prints how many octets in a second of processor time the frames of all rounds come to, and the plain copies, and how many hundredths

@@ -1,8 +1,10 @@
 // How fast frames become acts.
 ghost use Rattle.std.specs.Prelude.{◌<◌, ◌^◌};
 
-use anyhow::{Result, bail, ensure};
-use bench_parts::{CpuStopwatch, Line, per_second};
+use crate::frames::push_frame;
+use crate::report::tell;
+use anyhow::{Result, ensure};
+use bench_parts::{CpuStopwatch, per_second};
 use h2_frames::{ReadFrame, frame_head, read_frame};
 use h2_session::{Act, Session};
 use io_ports::{NoMemory, Octets};
@@ -14,16 +16,6 @@ const ROUNDS: u32 = 20_000;
 
 /// How many turns there are. The best of them counts, by the processor's time.
 const TURNS: u32 = 50;
-
-// A frame's head, and its payload.
-fn push_frame(
-    into: &mut Octets,
-    head: [u8; 9],
-    payload: &[u8],
-) -> std::result::Result<(), NoMemory> {
-    into.push_all(&head)?;
-    into.push_all(payload)
-}
 
 // SETTINGS, and HEADERS that open so many streams.
 fn opening(alloc: Global, open: u16) -> std::result::Result<Octets, NoMemory> {
@@ -105,36 +97,42 @@ fn turn_on(
     opening: &[u8],
     mix: &[u8],
 ) -> Result<(u64, u64)> {
-    if accept_all(session, opening).is_err() {
-        bail!("no memory");
-    }
+    accept_all(session, opening)?;
     let watch = CpuStopwatch::start(rt)?;
-    let Ok((acts, sum)) = accept_all(session, mix) else {
-        bail!("no memory");
-    };
+    let (acts, sum) = accept_all(session, mix)?;
     let rate = per_second(acts, watch.nanos(rt)?);
     let left = session.streams();
     ensure!(left == u32::from(open), "{left} streams are open");
     Ok((rate, sum))
 }
 
-fn report(rt: &(impl Print + CpuClock + AllocGlobal), open: u16) -> Result<()> {
-    let (Ok(opening), Ok(mix)) = (opening(rt.alloc(), open), mix(rt.alloc(), open)) else {
-        bail!("no memory");
-    };
+// The best turn's acts a second, and the sum of what all turns give.
+fn turns(
+    rt: &(impl CpuClock + AllocGlobal),
+    open: u16,
+    opening: &[u8],
+    mix: &[u8],
+) -> Result<(u64, u64)> {
     let mut best = 0;
     let mut total = 0u64;
     for _ in 0..TURNS {
-        let (rate, sum) = turn(rt, open, opening.as_slice(), mix.as_slice())?;
+        let (rate, sum) = turn(rt, open, opening, mix)?;
         best = best.max(rate);
         total = total.wrapping_add(sum);
     }
-    let mut line = Line::new(rt.alloc());
-    line.say_with("session: ", best);
-    line.say_with(" acts a second with ", u64::from(open));
-    line.say_with(" open streams (sum ", total);
-    line.say(")");
-    Ok(line.print(rt)?)
+    Ok((best, total))
+}
+
+fn report(rt: &(impl Print + CpuClock + AllocGlobal), open: u16) -> Result<()> {
+    let opening = opening(rt.alloc(), open)?;
+    let mix = mix(rt.alloc(), open)?;
+    let (best, total) = turns(rt, open, opening.as_slice(), mix.as_slice())?;
+    let numbers = [
+        ("session: ", best),
+        (" acts a second with ", u64::from(open)),
+        (" open streams (sum ", total),
+    ];
+    tell(rt, &numbers, ")")
 }
 
 /// A mix of frames with few and with many open streams.

@@ -3,8 +3,9 @@ ghost use Rattle.std.specs.Prelude.{◌≡◌, ◌+◌, ◌^◌, ◌<◌, ◌≤
 ghost use Rattle.std.specs.VecDeque.{deque_len};
 ghost use Rattle.scaled_timer.specs.Timing.{AreHeld};
 
-use anyhow::{bail, ensure};
-use bench_parts::{CpuStopwatch, Line};
+use crate::report::tell;
+use anyhow::ensure;
+use bench_parts::CpuStopwatch;
 use link_lists::Steps;
 use scaled_timer::{Timer, TimerKind, Timers};
 use std::alloc::Global;
@@ -175,9 +176,7 @@ fn arm_round<L: Ledger>(
 ) -> anyhow::Result<u64>
     requires { count ≤ 1000000 }
 {
-    let Ok(mut timers) = Timers::new(rt.alloc(), &[kind_of(count)]) else {
-        bail!("out of memory");
-    };
+    let mut timers = Timers::new(rt.alloc(), &[kind_of(count)])?;
     let mut held = none_held(rt.alloc(), &timers);
     let watch = CpuStopwatch::start(rt);
     let filled = fill(&mut timers, &mut held, count, steps);
@@ -249,9 +248,7 @@ fn moving_and_turning<L: Ledger>(
 ) -> anyhow::Result<(u64, u64)>
     requires { count ≤ 1000000 }
 {
-    let Ok(mut timers) = Timers::new(rt.alloc(), &[kind_of(count)]) else {
-        bail!("out of memory");
-    };
+    let mut timers = Timers::new(rt.alloc(), &[kind_of(count)])?;
     let mut held = none_held(rt.alloc(), &timers);
     let times = time_both(rt, count, &mut timers, &mut held, steps);
     give_back(&mut timers, held, steps);
@@ -270,23 +267,13 @@ fn report<L: Ledger>(
     let mut steps = Steps::<L>::open(blank);
     let arm = arming(rt, count, &mut steps)?;
     let (shift, turn) = moving_and_turning(rt, count, &mut steps)?;
-    tell(rt, count, arm, shift, turn)
-}
-
-fn tell(
-    rt: &(impl AllocGlobal + Print),
-    count: u64,
-    arm: u64,
-    shift: u64,
-    turn: u64,
-) -> anyhow::Result<()> {
-    let mut line = Line::new(rt.alloc());
-    line.say_with("", count);
-    line.say_with(" armed: ", arm);
-    line.say_with(" ns to arm, ", shift);
-    line.say_with(" ns to move, ", turn);
-    line.say(" ns to turn");
-    Ok(line.print(rt)?)
+    let numbers = [
+        ("", count),
+        (" armed: ", arm),
+        (" ns to arm, ", shift),
+        (" ns to move, ", turn),
+    ];
+    tell(rt, &numbers, " ns to turn")
 }
 
 /// Measures with 100, 10,000 and 1,000,000 armed timers, and prints nanoseconds of processor time for each call.
