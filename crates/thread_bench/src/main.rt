@@ -29,33 +29,38 @@ fn main(rt: HostRuntime) -> anyhow::Result<()> {
     let bench = words.next();
     let word = words.next();
     let number = words.next();
-    run(&rt, bench.as_deref(), word.as_deref(), number.as_deref())
+    run(
+        &rt,
+        bench.as_deref().unwrap_or(""),
+        word.as_deref().unwrap_or(""),
+        number.as_deref(),
+    )
 }
 
-// Runs the bench of this name. Without one it prints the usage.
+// Runs the bench of this name. Where there is none it prints the usage.
 fn run<R: Threads + Wait + AllocGlobal + Clock + CpuClock + Print + Sync>(
     rt: &R,
-    bench: Option<&str>,
-    word: Option<&str>,
+    bench: &str,
+    word: &str,
     number: Option<&str>,
 ) -> anyhow::Result<()> {
     match bench {
-        Some("posts") => posts::run(rt),
-        Some("relay") => run_relay(rt, word, number),
-        Some("shared") => shared::run(rt),
+        "posts" => posts::run(rt),
+        "relay" => run_relay(rt, word, number),
+        "shared" => shared::run(rt),
         _ => usage(rt),
     }
 }
 
 fn run_relay(
     rt: &(impl AllocGlobal + Print + CpuClock),
-    bench: Option<&str>,
+    bench: &str,
     number: Option<&str>,
 ) -> anyhow::Result<()> {
     match bench {
-        Some("octets") => relay_octets::run(rt),
-        Some("turns") => relay_turns::run(rt),
-        Some("pairs") => relay_pairs::run(rt, number),
+        "octets" => relay_octets::run(rt),
+        "turns" => relay_turns::run(rt),
+        "pairs" => relay_pairs::run(rt, number),
         _ => usage(rt),
     }
 }

@@ -6,8 +6,8 @@ ghost use Rattle.std.specs.Thread.{IsSync};
 ghost use Rattle.post_queue.specs.Clauses.{IsPosterOf, IsRunnerOf, passes_in};
 
 use crate::plain_queue::{Emptying, plain_turn};
-use anyhow::{bail, ensure};
-use bench_parts::{Line, Stopwatch, per_second};
+use anyhow::ensure;
+use bench_parts::{Stopwatch, per_second, print_line};
 use flow_notes::Job;
 use post_queue::{Post, PostBox, PosterPass, PosterPasses, RunnerPass};
 use std::alloc::{AllocError, Global};
@@ -111,9 +111,7 @@ fn turn_of_posts<R: Threads + Wait + Sync>(
 ) -> anyhow::Result<u64>
     requires { 1 ≤ posters }
 {
-    let Ok((posts, passes, runner)) = PostBox::new(alloc, posters) else {
-        bail!("no memory");
-    };
+    let (posts, passes, runner) = PostBox::new(alloc, posters)?;
     let mut passes = hire(alloc, &posts, passes)?;
     let n = POSTS / posters.max(1);
     Ok(exchange(rt, alloc, &posts, passes.as_mut_slice(), n, runner))
@@ -189,7 +187,7 @@ fn percent(part: u64, whole: u64) -> u64 {
 
 fn report(
     rt: &(impl Print + Clock + AllocGlobal + Threads + Wait + Sync),
-    name: &str,
+    posts_of: &str,
     posters: u32,
 ) -> anyhow::Result<()>
     requires { 1 ≤ posters }
@@ -204,7 +202,7 @@ fn report(
     }
     tell_rates(
         rt,
-        name,
+        posts_of,
         median_rate(posts),
         median_rate(lists),
         median_rate(pops),
@@ -213,25 +211,23 @@ fn report(
 
 fn tell_rates(
     rt: &(impl Print + AllocGlobal),
-    name: &str,
+    posts_of: &str,
     rate: u64,
     in_lists: u64,
     by_pops: u64,
 ) -> anyhow::Result<()> {
-    let mut line = Line::new(rt.alloc());
-    line.say("posts: ");
-    line.say(name);
-    line.say_with(": ", rate);
-    line.say_with(" posts a second\n  a plain queue in lists ", in_lists);
-    line.say_with(": ", percent(rate, in_lists));
-    line.say_with(" %\n  a plain queue by bare pops ", by_pops);
-    line.say_with(": ", percent(rate, by_pops));
-    line.say(" %");
-    Ok(line.print(rt)?)
+    let numbers = [
+        (posts_of, rate),
+        (" posts a second\n  a plain queue in lists ", in_lists),
+        (": ", percent(rate, in_lists)),
+        (" %\n  a plain queue by bare pops ", by_pops),
+        (": ", percent(rate, by_pops)),
+    ];
+    Ok(print_line(rt, &numbers, " %")?)
 }
 
 /// Posts of one poster, and of three.
 pub fn run(rt: &(impl Print + Clock + AllocGlobal + Threads + Wait + Sync)) -> anyhow::Result<()> {
-    report(rt, "one poster", 1)?;
-    report(rt, "three posters", 3)
+    report(rt, "posts: one poster: ", 1)?;
+    report(rt, "posts: three posters: ", 3)
 }

@@ -1,5 +1,5 @@
 // Octets through one pair, beside the same octets copied twice by plain slice copies.
-use anyhow::{anyhow, ensure};
+use anyhow::ensure;
 use bench_parts::{CpuStopwatch, Line, per_second};
 use flow_notes::{Event, Notes};
 use io_ports::Octets;
@@ -20,52 +20,50 @@ const ROUNDS: u64 = 256;
 
 const OCTETS: u64 = PIECE as u64 * READS_A_ROUND * ROUNDS;
 
-/// What goes wrong in a bench.
-pub(crate) fn failed(fault: RelayFault) -> anyhow::Error {
-    match fault {
-        RelayFault::Paused { held } => anyhow!("a paused flow was read, with {held} octets"),
-        RelayFault::NoMemory | RelayFault::Failed => anyhow!("out of memory"),
-    }
-}
-
-/// Dispatches an event, and lets its notes go.
-pub(crate) fn dispatch(
-    relay: &mut Relay,
-    event: &Event,
-    notes: &mut Notes,
-) -> Result<(), RelayFault> {
+// Dispatches an event, and lets its notes go.
+fn dispatch(relay: &mut Relay, event: &Event, notes: &mut Notes) -> Result<(), RelayFault> {
     relay.dispatch(event, notes)?;
     notes.clear();
     Ok(())
 }
 
+/// The same of an event that comes once.
+pub(crate) fn pass(relay: &mut Relay, event: Event, notes: &mut Notes) -> Result<(), RelayFault> {
+    let end = dispatch(relay, &event, notes);
+    drop(event);
+    end
+}
+
 /// A pair from connection `conn` + 1, a client's, to `conn`.
 pub(crate) fn begin(relay: &mut Relay, conn: u32, notes: &mut Notes) -> Result<(), RelayFault> {
     let client = conn.saturating_add(1);
-    dispatch(relay, &Event::Join { conn, cluster: 0 }, notes)?;
-    dispatch(relay, &Event::Accept { conn: client }, notes)
+    pass(relay, Event::Join { conn, cluster: 0 }, notes)?;
+    pass(relay, Event::Accept { conn: client }, notes)
 }
 
 /// A round's reads, each written out at once, as a live relay does it; sums the first octets that go out.
-fn relay_round(relay: &mut Relay, read: &Event) -> Result<u64, RelayFault> {
+fn relay_round(relay: &mut Relay, read: &Event, room: &Event) -> Result<u64, RelayFault> {
     let mut sum = 0u64;
-    let room = Event::Room { conn: 1, n: PIECE };
     for _read in 0..READS_A_ROUND {
         relay.carry_out(read)?;
         sum = sum.wrapping_add(first_octet(relay.out_front(1)));
-        relay.carry_out(&room)?;
+        relay.carry_out(room)?;
     }
     Ok(sum)
 }
 
 /// The same, with the notes of a tape.
-fn noted_round(relay: &mut Relay, read: &Event, notes: &mut Notes) -> Result<u64, RelayFault> {
+fn noted_round(
+    relay: &mut Relay,
+    read: &Event,
+    room: &Event,
+    notes: &mut Notes,
+) -> Result<u64, RelayFault> {
     let mut sum = 0u64;
-    let room = Event::Room { conn: 1, n: PIECE };
     for _read in 0..READS_A_ROUND {
         dispatch(relay, read, notes)?;
         sum = sum.wrapping_add(first_octet(relay.out_front(1)));
-        dispatch(relay, &room, notes)?;
+        dispatch(relay, room, notes)?;
     }
     Ok(sum)
 }
@@ -96,24 +94,33 @@ fn block(alloc: Global, octet: u8) -> Result<Vec<u8>, AllocError> {
     vec![in alloc; octet; PIECE as usize]
 }
 
-/// A pair's relay, with what is read of its client.
+/// A pair's relay, with what is read of its client and the room that the other side has for it.
 #[derive(Drop)]
 struct Pair {
     relay: Relay,
     read: Event,
+    room: Event,
     notes: Notes,
 }
 
 impl Pair {
-    fn new(alloc: Global) -> anyhow::Result<Self> {
+    /// The pair has not begun.
+    fn new(alloc: Global) -> Result<Self, AllocError> {
         let octets = Octets::from_vec(block(alloc, 7)?);
-        let mut notes = Notes::new(alloc);
-        let mut relay = Relay::new(alloc, LIMIT);
-        let read = Event::Read { conn: 2, octets };
-        match begin(&mut relay, 1, &mut notes) {
-            Ok(()) => Ok(Pair { relay, read, notes }),
-            Err(fault) => Err(failed(fault)),
-        }
+        Ok(Pair {
+            relay: Relay::new(alloc, LIMIT),
+            read: Event::Read { conn: 2, octets },
+            room: Event::Room { conn: 1, n: PIECE },
+            notes: Notes::new(alloc),
+        })
+    }
+
+    fn relay(&mut self) -> Result<u64, RelayFault> {
+        relay_round(&mut self.relay, &self.read, &self.room)
+    }
+
+    fn note(&mut self) -> Result<u64, RelayFault> {
+        noted_round(&mut self.relay, &self.read, &self.room, &mut self.notes)
     }
 }
 
@@ -147,14 +154,14 @@ impl Spent {
     // A round of relaying. The sum of the first octets, as of the others.
     fn relay(&mut self, rt: &impl CpuClock, pair: &mut Pair) -> anyhow::Result<u64> {
         let watch = CpuStopwatch::start(rt)?;
-        let relayed = relay_round(&mut pair.relay, &pair.read).map_err(failed)?;
+        let relayed = pair.relay()?;
         self.relaying = self.relaying.saturating_add(watch.nanos(rt)?);
         Ok(relayed)
     }
 
     fn note(&mut self, rt: &impl CpuClock, pair: &mut Pair) -> anyhow::Result<u64> {
         let watch = CpuStopwatch::start(rt)?;
-        let noted = noted_round(&mut pair.relay, &pair.read, &mut pair.notes).map_err(failed)?;
+        let noted = pair.note()?;
         self.noting = self.noting.saturating_add(watch.nanos(rt)?);
         Ok(noted)
     }
@@ -205,6 +212,7 @@ fn rounds(
     blocks: &mut Blocks,
     spent: &mut Spent,
 ) -> anyhow::Result<()> {
+    begin(&mut pair.relay, 1, &mut pair.notes)?;
     for _round in 0..ROUNDS {
         round(rt, pair, blocks, spent)?;
     }

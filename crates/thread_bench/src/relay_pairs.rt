@@ -1,27 +1,22 @@
 // Pairs that come and go. What memory they leave is seen from outside.
-use crate::relay_octets::{begin, dispatch, failed};
-use anyhow::{anyhow, bail};
+use crate::relay_octets::{begin, pass};
+use anyhow::anyhow;
 use flow_notes::{Event, Notes};
 use io_ports::Octets;
 use std::alloc::Global;
-use tcp_relay::{Relay, RelayFault};
+use tcp_relay::Relay;
 
 /// One pair: it begins, octets go, the client is lost, and the rest is written.
-fn one_pair(
-    relay: &mut Relay,
-    conn: u32,
-    octets: Octets,
-    notes: &mut Notes,
-) -> Result<(), RelayFault> {
+fn one_pair(alloc: Global, relay: &mut Relay, conn: u32, notes: &mut Notes) -> anyhow::Result<()> {
     let client = conn.saturating_add(1);
     begin(relay, conn, notes)?;
     let read = Event::Read {
         conn: client,
-        octets,
+        octets: Octets::from_slice(alloc, &[7; 1_000])?,
     };
-    dispatch(relay, &read, notes)?;
-    dispatch(relay, &Event::Gone { conn: client }, notes)?;
-    dispatch(relay, &Event::Room { conn, n: 1_000 }, notes)
+    pass(relay, read, notes)?;
+    pass(relay, Event::Gone { conn: client }, notes)?;
+    Ok(pass(relay, Event::Room { conn, n: 1_000 }, notes)?)
 }
 
 /// As many pairs as the word says, one after the other. The relay is dropped by a call, since the check follows a drop without one
@@ -62,10 +57,7 @@ fn all_pairs(
     notes: &mut Notes,
 ) -> anyhow::Result<()> {
     for pair in 0..pairs.min(1_000_000) {
-        let Ok(octets) = Octets::from_slice(alloc, &[7; 1_000]) else {
-            bail!("out of memory");
-        };
-        one_pair(relay, 2 * pair + 1, octets, notes).map_err(failed)?;
+        one_pair(alloc, relay, 2 * pair + 1, notes)?;
     }
     Ok(())
 }

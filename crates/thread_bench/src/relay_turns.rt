@@ -94,7 +94,7 @@ impl Work {
         requires { Belongs self.old.names self.old.relay (seen_of self.old.taps) }
         ensures { OnOk result (Belongs self.new.names self.new.relay (seen_of self.new.taps)) }
     {
-        let mut journal = MemSink::new(alloc, JOURNAL, Vec::new(alloc)).map_err(out_of_memory)?;
+        let mut journal = MemSink::new(alloc, JOURNAL, Vec::new(alloc))?;
         match relay_work(
             alloc,
             &mut self.relay,
@@ -126,8 +126,8 @@ fn tell_reads(taps: &mut MemTaps, alloc: Global) -> anyhow::Result<()>
     ensures { OnOk result (seen_of taps.new ≡ seen_of taps.old) }
 {
     for _turn in 0..TURNS {
-        let octets = Octets::from_slice(alloc, &[7; 100]).map_err(out_of_memory)?;
-        taps.tell(Wired::Read(2, octets)).map_err(out_of_memory)?;
+        let octets = Octets::from_slice(alloc, &[7; 100])?;
+        taps.tell(Wired::Read(2, octets))?;
     }
     Ok(())
 }

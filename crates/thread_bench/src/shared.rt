@@ -125,9 +125,7 @@ fn enters(alloc: Global, threads: u32) -> anyhow::Result<Vec<Timed<Enters>>>
 fn takes(alloc: Global, threads: u32, tokens: u64) -> anyhow::Result<Vec<Timed<Takes>>>
     requires { (1 ≤ threads) × (threads ≤ 4) }
 {
-    let (bucket, mut seats, mut put) = Bucket::new(alloc, TOKENS, threads).map_err(|_| anyhow!(
-        "no memory"
-    ))?;
+    let (bucket, mut seats, mut put) = Bucket::new(alloc, TOKENS, threads)?;
     ensure!(
         bucket.put(&mut put, tokens) == tokens,
         "the tokens weren't put"
@@ -196,29 +194,37 @@ fn states<R: Threads + Wait + AllocGlobal + CpuClock + Sync>(
     requires threads { 1 ≤ threads }
     requires resources { length config.now.overload.resources ≡ 2 }
 {
-    let made = make_shared(rt, rt.alloc(), config, threads);
-    let (mut publisher, mut followers) = made.map_err(|_| anyhow!("no memory"))?;
-    let figures = match follows(rt.alloc(), &mut followers) {
-        Ok(mut loads) => {
-            let quiet = best(rt, loads.as_mut_slice());
-            let stop = AtomicBool::new(false);
-            let loud = best_beside(rt, &mut publisher, loads.as_mut_slice(), &stop);
-            Ok((quiet, loud))
-        }
-        Err(refusal) => Err(refusal),
-    };
+    let (mut publisher, mut followers) = make_shared(rt, rt.alloc(), config, threads)?;
+    let figures = quiet_and_loud(rt, &mut publisher, &mut followers);
     publisher.end(rt);
-    let (quiet, loud) = figures?;
-    Ok((quiet?, loud?))
+    figures
 }
 
-// The figure of these loads.
-fn time<R: Threads + Wait + AllocGlobal + CpuClock + Sync, L: Load + Send + Drop>(
+fn quiet_and_loud<R: Threads + Wait + AllocGlobal + CpuClock + Sync>(
     rt: &R,
+    publisher: &mut Publisher,
+    followers: &mut Followers,
+) -> anyhow::Result<(u64, u64)>
+    requires { resources_of publisher.old ≡ 2 }
+{
+    let mut loads = follows(rt.alloc(), followers)?;
+    let quiet = best(rt, loads.as_mut_slice())?;
+    let stop = AtomicBool::new(false);
+    let loud = best_beside(rt, publisher, loads.as_mut_slice(), &stop)?;
+    Ok((quiet, loud))
+}
+
+// Prints the figure of these loads.
+fn report_loads<R: Threads + Wait + AllocGlobal + CpuClock + Print + Sync, L: Load + Send + Drop>(
+    rt: &R,
+    threads: u32,
+    call: &str,
     loads: Vec<Timed<L>>,
-) -> anyhow::Result<u64> {
+) -> anyhow::Result<()> {
     let mut loads = loads;
-    best(rt, loads.as_mut_slice())
+    let tenths = best(rt, loads.as_mut_slice());
+    drop(loads);
+    tell(rt, threads, call, tenths?)
 }
 
 fn report_tokens<R: Threads + Wait + AllocGlobal + CpuClock + Print + Sync>(
@@ -227,12 +233,14 @@ fn report_tokens<R: Threads + Wait + AllocGlobal + CpuClock + Print + Sync>(
 ) -> anyhow::Result<()>
     requires { (1 ≤ threads) × (threads ≤ 4) }
 {
-    let fetched = time(rt, fetches(rt.alloc(), threads)?)?;
-    tell(rt, threads, "a bare fetch", fetched)?;
-    let taken = time(rt, takes(rt.alloc(), threads, TOKENS)?)?;
-    tell(rt, threads, "a take", taken)?;
-    let refused = time(rt, takes(rt.alloc(), threads, 0)?)?;
-    tell(rt, threads, "a refused take", refused)
+    report_loads(rt, threads, "a bare fetch", fetches(rt.alloc(), threads)?)?;
+    report_loads(rt, threads, "a take", takes(rt.alloc(), threads, TOKENS)?)?;
+    report_loads(
+        rt,
+        threads,
+        "a refused take",
+        takes(rt.alloc(), threads, 0)?,
+    )
 }
 
 fn report_permits<R: Threads + Wait + AllocGlobal + CpuClock + Print + Sync>(
@@ -241,10 +249,13 @@ fn report_permits<R: Threads + Wait + AllocGlobal + CpuClock + Print + Sync>(
 ) -> anyhow::Result<()>
     requires { (1 ≤ threads) × (threads ≤ 4) }
 {
-    let fetched = time(rt, fetch_pairs(rt.alloc(), threads)?)?;
-    tell(rt, threads, "two bare fetches", fetched)?;
-    let entered = time(rt, enters(rt.alloc(), threads)?)?;
-    tell(rt, threads, "enter and leave", entered)
+    report_loads(
+        rt,
+        threads,
+        "two bare fetches",
+        fetch_pairs(rt.alloc(), threads)?,
+    )?;
+    report_loads(rt, threads, "enter and leave", enters(rt.alloc(), threads)?)
 }
 
 fn report_states<R: Threads + Wait + AllocGlobal + CpuClock + Print + Sync>(
